@@ -1,0 +1,176 @@
+// Makes every public call by a line of text, one answer a line: docs/CALLS.md has the form of the lines.
+mod line;
+mod numbers;
+mod text;
+mod told;
+
+use libc::STDIN_FILENO;
+use libc::STDOUT_FILENO;
+
+// What is kept from byte to byte and from read to read: how many bytes of a line have come, whether it is longer than a
+// line may be, how many bytes of answers wait to be written, and whether all writes went well.
+struct Place {
+    kept: usize,
+    long: bool,
+    wait: usize,
+    ok: bool,
+}
+
+// The longest line.
+const LINE: usize = 2000;
+
+// As many operands as a line has room for, and as many results.
+const WORDS: usize = 224;
+
+// Answers are written out before fewer bytes than this are left for the next, which is more than the longest answer.
+const ROOM: usize = 1024;
+
+// Writes the answers that wait.
+fn write(out: &[u8], wait: usize) -> bool {
+    if out.len() < wait {
+        return false;
+    }
+    io::write_all(STDOUT_FILENO, &out[..wait])
+}
+
+fn flush(p: Place, out: &[u8]) -> Place {
+    let ok = write(out, p.wait);
+    Place {
+        kept: p.kept,
+        long: p.long,
+        wait: 0,
+        ok,
+    }
+}
+
+// Answers the line that has come, and answers how many bytes wait then.
+fn put_line(p: Place, line: &[u8], ops: &mut [u32], res: &mut [u32], out: &mut [u8]) -> usize {
+    let kept = p.kept;
+    if p.long {
+        return text::malformed(out, p.wait);
+    }
+    if line.len() < kept {
+        return text::malformed(out, p.wait);
+    }
+    line::answer(&line[..kept], ops, res, out, p.wait)
+}
+
+fn has_room(out: &[u8], wait: usize) -> bool {
+    if out.len() < wait {
+        return false;
+    }
+    ROOM < out.len() - wait
+}
+
+// Answers the line that has come, and begins the next.
+fn end_line(p: Place, line: &[u8], ops: &mut [u32], res: &mut [u32], out: &mut [u8]) -> Place {
+    let wait = put_line(p, line, ops, res, out);
+    let next = Place {
+        kept: 0,
+        long: false,
+        wait,
+        ok: p.ok,
+    };
+    if has_room(out, wait) {
+        return next;
+    }
+    flush(next, out)
+}
+
+// Takes one byte of the input.
+fn take_byte(
+    p: Place,
+    b: u8,
+    line: &mut [u8],
+    ops: &mut [u32],
+    res: &mut [u32],
+    out: &mut [u8],
+) -> Place {
+    if b == b'\n' {
+        return end_line(p, line, ops, res, out);
+    }
+    if LINE <= p.kept {
+        return Place {
+            kept: p.kept,
+            long: true,
+            wait: p.wait,
+            ok: p.ok,
+        };
+    }
+    let kept = text::put(line, p.kept, b);
+    Place {
+        kept,
+        long: p.long,
+        wait: p.wait,
+        ok: p.ok,
+    }
+}
+
+// Takes the bytes that were read, as long as the answers can be written.
+fn take_bytes(
+    p: Place,
+    input: &[u8],
+    line: &mut [u8],
+    ops: &mut [u32],
+    res: &mut [u32],
+    out: &mut [u8],
+) -> Place {
+    let mut q = p;
+    let mut i = 0;
+    while i < input.len() && q.ok {
+        q = take_byte(q, input[i], line, ops, res, out);
+        i += 1;
+    }
+    q
+}
+
+// One read and the answers to the lines that it ended. At the end of the input a line that was begun counts as ended.
+fn turn(
+    p: Place,
+    input: &mut [u8],
+    line: &mut [u8],
+    ops: &mut [u32],
+    res: &mut [u32],
+    out: &mut [u8],
+) -> Place {
+    let n = io::count(libc::read(STDIN_FILENO, input), input);
+    if n == 0 {
+        return last(p, line, ops, res, out);
+    }
+    let q = take_bytes(p, &input[..n], line, ops, res, out);
+    flush(q, out)
+}
+
+fn last(p: Place, line: &mut [u8], ops: &mut [u32], res: &mut [u32], out: &mut [u8]) -> Place {
+    let mut q = p;
+    if 0 < p.kept {
+        q = flush(end_line(p, line, ops, res, out), out);
+    }
+    q.ok = false;
+    q
+}
+
+// A proved loop has to end, and nothing says that the input does: so the turns are counted down, from a number that no run
+// uses up.
+fn run(input: &mut [u8], line: &mut [u8], ops: &mut [u32], res: &mut [u32], out: &mut [u8]) {
+    let mut p = Place {
+        kept: 0,
+        long: false,
+        wait: 0,
+        ok: true,
+    };
+    let mut turns = u64::MAX;
+    while turns > 0 && p.ok {
+        p = turn(p, input, line, ops, res, out);
+        turns -= 1;
+    }
+}
+
+fn main() {
+    let mut input = io::large_buffer();
+    let mut line = io::buffer();
+    let mut ops = [0u32; WORDS];
+    let mut res = [0u32; WORDS];
+    let mut out = io::large_buffer();
+    run(&mut input, &mut line, &mut ops, &mut res, &mut out);
+}

@@ -1,0 +1,53 @@
+// What a part of the calls tells of a line, and the words that it reads and writes.
+use refusal::Refusal;
+
+pub enum Told {
+    // The line is none of this part's: another name, or other operands than the call of that name takes.
+    Nothing,
+    // The refusal's number, and how many words of the results are the answer's.
+    Answer(u32, usize),
+}
+
+// Whether the name is this one.
+pub fn same(name: &[u8], w: &[u8]) -> bool {
+    if name.len() != w.len() {
+        return false;
+    }
+    let mut i = 0;
+    while i < w.len() && i < name.len() {
+        if name[i] != w[i] {
+            return false;
+        }
+        i += 1;
+    }
+    true
+}
+
+pub fn word(ops: &[u32], i: usize) -> u32 {
+    if i < ops.len() { ops[i] } else { 0 }
+}
+
+pub fn number(ops: &[u32], i: usize) -> f32 {
+    float::from_bits(word(ops, i))
+}
+
+pub fn put_word(res: &mut [u32], i: usize, v: u32) {
+    if i < res.len() {
+        res[i] = v;
+    }
+}
+
+pub fn put_number(res: &mut [u32], i: usize, x: f32) {
+    put_word(res, i, float::to_bits(x));
+}
+
+// An answer of one number, nothing refused.
+pub fn one(res: &mut [u32], y: f32) -> Told {
+    put_number(res, 0, y);
+    Told::Answer(0, 1)
+}
+
+// An answer whose results are in their place.
+pub fn answered(r: Refusal, count: usize) -> Told {
+    Told::Answer(r.number(), count)
+}

@@ -1,0 +1,3 @@
+pub mod F32
+pub mod Float
+pub mod FloatLaws

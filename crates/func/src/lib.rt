@@ -1,0 +1,63 @@
+// utils/func.rs: mapping a number from one range to another, and wrapping it into a range by counted steps.
+ghost use mathlib.Core.Path.{_≡_};
+ghost use Rattle.func.specs.Func.{linearMap, refused, wrapped};
+use refusal::Refusal;
+
+// What wrapping gives: refused, the number is +0 and the steps are 0, or 64 where they ran out.
+pub struct Wrapped {
+    pub refusal: Refusal,
+    pub value: f32,
+    pub steps: u32,
+}
+
+// Maps num from in_min..in_max to out_min..out_max.
+pub fn linear_map(num: f32, in_min: f32, in_max: f32, out_min: f32, out_max: f32) -> f32
+    ensures { λ r. ⌜ r ≡ linearMap num «in_min» «in_max» «out_min» «out_max» ⌝ }
+{
+    let out_delta = out_max - out_min;
+    let in_delta = in_max - in_min;
+    ((num - in_min) / in_delta) * out_delta + out_min
+}
+
+fn refused(refusal: Refusal, steps: u32) -> Wrapped
+    ensures { λ r. ⌜ r ≡ refused refusal steps ⌝ }
+{
+    Wrapped {
+        refusal,
+        value: 0.0,
+        steps,
+    }
+}
+
+// Wraps num into min ≤ num < max. The Rust's loops have no cap: at an infinity, or where a step changes nothing, they
+// never end.
+pub fn wrap(num: f32, min: f32, max: f32) -> Wrapped
+    ensures { λ r. ⌜ r ≡ wrapped num min max ⌝ }
+{
+    if min < max {
+        let width = max - min;
+        let mut n = num;
+        let mut steps = 0u32;
+        while n < min {
+            if steps == 64 {
+                return refused(Refusal::Steps, 64);
+            }
+            n = n + width;
+            steps += 1;
+        }
+        while n >= max {
+            if steps == 64 {
+                return refused(Refusal::Steps, 64);
+            }
+            n = n - width;
+            steps += 1;
+        }
+        let refusal = Refusal::None;
+        return Wrapped {
+            refusal,
+            value: n,
+            steps,
+        };
+    }
+    refused(Refusal::Range, 0)
+}

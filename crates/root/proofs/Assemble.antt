@@ -1,0 +1,120 @@
+-- A pattern put together from its parts, and when it is the nearest. Assumes nothing.
+use mathlib.Core.Path.{_≡_, sym, ap, _∙_, subst}
+use mathlib.Core.Logic.{inl, inr}
+use Prim.Native.Nat.{ℕ, zero, suc, _+_, _-_, _*_, _/_, _%_, _^_, _≤_, _<_}
+use native.Mathlib.Nat.{le-trans, le-of-eq, eq-or-lt-of-le, mul-le-mul, mul-le-mul-right, mul-lt-mul-of-pos-right, mul-comm, mul-assoc, mul-add, add-mul, mul-pos, mul-mul-mul-comm, pow-suc, add-comm}
+use native.Mathlib.Omega.{arith}
+use lib.Pow.{pow-pos, pow-add}
+use Rattle.root.specs.Root.{ofParts, scaled, middle, fourfold, rootBits}
+use Rattle.root.specs.RootLaws.{Nearest, root-nearest, nearest-unique}
+use Rattle.root.specs.Patterns.{scaled-mono, parts-at, middle-is, scaled-is, scaled-at, odd-square, next-middle, own-middle, fourfold-is}
+use Rattle.root.specs.Post.{IsParts, IsRounded}
+
+square-le : (x g p m : ℕ) → x ≤ g * p → g * g ≤ m → x * x ≤ m * (p * p)
+square-le x g p m h l = le-trans (mul-le-mul h h) (le-trans (le-of-eq (mul-mul-mul-comm g p g p)) (mul-le-mul-right (p * p) l))
+
+square-gt : (x g p m : ℕ) → 0 < p → x ≡ g * p → m < g * g → m * (p * p) < x * x
+square-gt x g p m P e l = rw (e, mul-mul-mul-comm g p g p) (mul-lt-mul-of-pos-right l (mul-pos P P))
+
+one-more : (r : ℕ) → (r + 1) * (r + 1) ≡ r * r + r + r + 1
+one-more r = simp (mul-add, add-mul) (omega arith)
+
+least-middle : (k : ℕ) → middle (k * 2 ^ 23 + 2 ^ 23) ≤ 2 ^ 24 * 2 ^ k
+least-middle k =
+    let y = k * 2 ^ 23 + 2 ^ 23 in
+    let a : scaled y ≡ 2 ^ 23 * 2 ^ k = scaled-at k (2 ^ 23) (omega arith) (omega arith) in
+    let b : scaled (y - 1) ≤ scaled y = scaled-mono (y - 1) y (omega arith) in
+    rw (middle-is y) (omega arith)
+
+below-inner : (n k q : ℕ) → 2 ^ 23 ≤ q → q + 1 < 2 ^ 24 → (q + 1) * (q + 1) < n + (q + 1) → middle (k * 2 ^ 23 + (q + 1)) * middle (k * 2 ^ 23 + (q + 1)) ≤ 4 * n * (2 ^ k * 2 ^ k)
+below-inner n k q h l u =
+    let w : q * q + q + q + 1 < n + (q + 1) = rw one-more at u in
+    square-le (middle (k * 2 ^ 23 + (q + 1))) (q + q + 1) (2 ^ k) (4 * n) (le-of-eq (own-middle k q h l)) (rw odd-square (omega arith))
+
+below-of : (n k r : ℕ) → IsRounded n r → 2 ^ 46 ≤ n → middle (k * 2 ^ 23 + r) * middle (k * 2 ^ 23 + r) ≤ 4 * n * (2 ^ k * 2 ^ k)
+below-of n k r R N =
+    elim (eq-or-lt-of-le (R .least)) [
+      | inl e ↦ rw (← e) (square-le (middle (k * 2 ^ 23 + 2 ^ 23)) (2 ^ 24) (2 ^ k) (4 * n) (least-middle k) (omega arith))
+      | inr l ↦ let e : r ≡ r - 1 + 1 = omega arith in rw e (below-inner n k (r - 1) (omega arith) (omega (arith, R .most)) (subst (λ (z : ℕ). z * z < n + z) e (R .under)))
+    ]
+
+pub is-nearest : (n k r : ℕ) → IsRounded n r → 2 ^ 46 ≤ n → Nearest (4 * n * (2 ^ k * 2 ^ k)) (k * 2 ^ 23 + r)
+is-nearest n k r R N = record {
+  below = below-of n k r R N;
+  above = square-gt (middle (suc (k * 2 ^ 23 + r))) (r + r + 1) (2 ^ k) (4 * n) (pow-pos k) (next-middle k r (R .least) (R .most)) (rw odd-square (omega arith));
+}
+
+-- ---- the halving
+pub small-square : (a : ℕ) → a ≤ 2 ^ 24 → a * a ≤ 2 ^ 48
+small-square a h = mul-le-mul h h
+
+up-most : (n lo : ℕ) → lo + 1 ≤ 2 ^ 24 → lo * lo + lo < n → n ≤ 2 ^ 48 - 2 ^ 24 → lo + 1 < 2 ^ 24
+up-most n lo h l N =
+    elim (eq-or-lt-of-le h) [
+      | inl e ↦ let f : lo ≡ 2 ^ 24 - 1 = omega arith in let g : 2 ^ 48 - 2 ^ 24 < n = rw f at l in omega arith
+      | inr i ↦ i
+    ]
+
+pub rounded-up : (n lo hi : ℕ) → 2 ^ 23 ≤ lo → lo < hi → hi ≤ 2 ^ 24 → hi ≤ lo + 1 → n < hi * hi → n ≤ 2 ^ 48 - 2 ^ 24 → lo * lo + lo < n → IsRounded n (lo + 1)
+rounded-up n lo hi a b c d e N u =
+    let f : hi ≡ lo + 1 = omega arith in
+    let g : n < lo * lo + lo + lo + 1 = rw (f, one-more) at e in
+    record { least = omega arith; most = up-most n lo (omega arith) u N; under = rw one-more (omega arith); over = rw one-more (omega arith) }
+
+pub rounded-down : (n lo hi : ℕ) → 2 ^ 46 ≤ n → 2 ^ 23 ≤ lo → lo < hi → hi ≤ 2 ^ 24 → lo * lo ≤ n → n ≤ lo * lo + lo → IsRounded n lo
+rounded-down n lo hi N a b c d u = record { least = a; most = omega arith; under = omega arith; over = u }
+
+-- ---- the parts of a pattern
+value-at : (x t : ℕ) → (t + 2 ^ 23) * 2 ^ (suc x + 125) ≡ ofParts (suc x) t * 2 ^ 126
+value-at x t =
+    let e : suc x + 125 ≡ x + 126 = omega arith in
+    rw (e, pow-add 2 x 126, add-comm t (2 ^ 23), parts-at x t) (sym (mul-assoc (2 ^ 23 + t) (2 ^ x) (2 ^ 126)))
+
+pub split-normal : (b : ℕ) → 2 ^ 23 ≤ b → b < 2 ^ 31 → IsParts b (b % 2 ^ 23 + 2 ^ 23) (b / 2 ^ 23 + 125)
+split-normal b h l =
+    let e : b / 2 ^ 23 ≡ suc (b / 2 ^ 23 - 1) = omega arith in
+    record {
+      least = omega arith;
+      most = omega arith;
+      exponent = omega arith;
+      value = rw scaled-is (subst (λ (z : ℕ). (b % 2 ^ 23 + 2 ^ 23) * 2 ^ (z + 125) ≡ ofParts z (b % 2 ^ 23) * 2 ^ 126) (sym e) (value-at (b / 2 ^ 23 - 1) (b % 2 ^ 23)));
+    }
+
+pub some-left : (m e b : ℕ) → 0 < b → m < 2 ^ 23 → m * 2 ^ e ≡ b * 2 ^ 126 → 1 ≤ e
+some-left m zero b B M v = omega arith
+some-left m (suc e) b B M v = omega arith
+
+pub one-step : (m e w : ℕ) → 1 ≤ e → m * 2 ^ e ≡ w → m * 2 * 2 ^ (e - 1) ≡ w
+one-step m zero w h v = omega arith
+one-step m (suc e) w h v =
+    let f : suc e - 1 ≡ e = omega arith in
+    rw f (mul-assoc m 2 (2 ^ e) ∙ ap (λ (z : ℕ). m * z) (mul-comm 2 (2 ^ e) ∙ sym (pow-suc 2 e)) ∙ v)
+
+-- ---- the whole
+-- n and k hold the number: x in squared units is n * 4 ^ k
+abbrev pub Holds : ℕ → ℕ → ℕ → Type 0
+Holds b n k = n * (2 ^ k * 2 ^ k) ≡ scaled b * 2 ^ 149
+
+regroup : (m c p : ℕ) → m * c * p ≡ m * p * c
+regroup m c p = simp (mul-assoc, mul-comm)
+
+widen : (s : ℕ) → s * 2 ^ 126 * 2 ^ 23 ≡ s * 2 ^ 149
+widen s = mul-assoc s (2 ^ 126) (2 ^ 23)
+
+pub holds-even : (b m e : ℕ) → IsParts b m e → (e % 2 ≡ 1 → ⊥) → Holds b (m * 2 ^ 23) (e / 2)
+holds-even b m e P h =
+    let f : e / 2 + e / 2 ≡ e = omega arith in
+    let g : 2 ^ (e / 2) * 2 ^ (e / 2) ≡ 2 ^ e = sym (pow-add 2 (e / 2) (e / 2)) ∙ ap (λ (z : ℕ). 2 ^ z) f in
+    rw (g, regroup m (2 ^ 23) (2 ^ e), P .value) (widen (scaled b))
+
+pub holds-odd : (b m e : ℕ) → IsParts b m e → e % 2 ≡ 1 → Holds b (m * 2 ^ 23 * 2) (e / 2)
+holds-odd b m e P h =
+    let k = e / 2 in
+    let f : suc (k + k) ≡ e = omega arith in
+    let g : 2 * (2 ^ k * 2 ^ k) ≡ 2 ^ e = ap (λ (z : ℕ). 2 * z) (sym (pow-add 2 k k)) ∙ mul-comm 2 (2 ^ (k + k)) ∙ sym (pow-suc 2 (k + k)) ∙ ap (λ (z : ℕ). 2 ^ z) f in
+    rw (mul-assoc (m * 2 ^ 23) 2 (2 ^ k * 2 ^ k), g, regroup m (2 ^ 23) (2 ^ e), P .value) (widen (scaled b))
+
+pub found : (b n k r : ℕ) → b < 2 ^ 31 → 2 ^ 46 ≤ n → IsRounded n r → Holds b n k → k * 2 ^ 23 + r ≡ rootBits b
+found b n k r B N R H =
+    let e : 4 * n * (2 ^ k * 2 ^ k) ≡ fourfold b = mul-assoc 4 n (2 ^ k * 2 ^ k) ∙ ap (λ (z : ℕ). 4 * z) H ∙ sym (mul-assoc 4 (scaled b) (2 ^ 149)) ∙ sym (fourfold-is b) in
+    nearest-unique (fourfold b) (k * 2 ^ 23 + r) (rootBits b) (subst (λ (z : ℕ). Nearest z (k * 2 ^ 23 + r)) e (is-nearest n k r R N)) (root-nearest b B)

@@ -1,0 +1,16 @@
+-- What the parts of the root's code ensure.
+use mathlib.Core.Path.{_≡_}
+use Prim.Native.Nat.{ℕ, _+_, _*_, _^_, _≤_, _<_}
+use Rattle.root.specs.Root.{scaled}
+
+pub record IsParts (b m e : ℕ) : Type 0 where
+  pub least : 2 ^ 23 ≤ m
+  pub most : m < 2 ^ 24
+  pub exponent : e ≤ 381
+  pub value : m * 2 ^ e ≡ scaled b * 2 ^ 126
+
+pub record IsRounded (n r : ℕ) : Type 0 where
+  pub least : 2 ^ 23 ≤ r
+  pub most : r < 2 ^ 24
+  pub under : r * r < n + r
+  pub over : n ≤ r * r + r

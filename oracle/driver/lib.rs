@@ -1,0 +1,14 @@
+//! A driver over the unchanged Rust: it answers the lines of the protocol (CALLS.md) and makes such lines.
+
+pub mod check;
+pub mod counted;
+pub mod generator;
+pub mod known;
+pub mod lines;
+pub mod options;
+pub mod panics;
+pub mod parts;
+pub mod patterns;
+pub mod protocol;
+pub mod random;
+pub mod values;

@@ -1,0 +1,96 @@
+//! Stands in for the crate `num_traits`: one trait, named both `Float` and `real::Real`, with the methods that the
+//! sources use. Every method is std's own method on f32, so no arithmetic is written here.
+
+pub mod float {
+    use core::ops::{Add, Div, Mul, Neg, Sub};
+
+    /// What `Float::from` accepts.
+    pub trait ToPrimitive {
+        fn nearest_f32(self) -> f32;
+    }
+
+    impl ToPrimitive for f64 {
+        fn nearest_f32(self) -> f32 {
+            self as f32
+        }
+    }
+
+    impl ToPrimitive for usize {
+        fn nearest_f32(self) -> f32 {
+            self as f32
+        }
+    }
+
+    pub trait Float:
+        Copy
+        + PartialOrd
+        + Neg<Output = Self>
+        + Add<Output = Self>
+        + Sub<Output = Self>
+        + Mul<Output = Self>
+        + Div<Output = Self>
+    {
+        /// The stand-in's own two methods. All others reach std's method on f32 through them, so that a number
+        /// type of ours has to give these alone.
+        fn of_f32(x: f32) -> Self;
+        fn as_f32(self) -> f32;
+
+        fn zero() -> Self {
+            Self::of_f32(0.0)
+        }
+        fn one() -> Self {
+            Self::of_f32(1.0)
+        }
+        fn from<N: ToPrimitive>(n: N) -> Option<Self> {
+            Some(Self::of_f32(n.nearest_f32()))
+        }
+        fn is_sign_positive(self) -> bool {
+            self.as_f32().is_sign_positive()
+        }
+        #[inline(always)]
+        fn abs(self) -> Self {
+            Self::of_f32(self.as_f32().abs())
+        }
+        #[inline(always)]
+        fn sqrt(self) -> Self {
+            Self::of_f32(self.as_f32().sqrt())
+        }
+        #[inline(always)]
+        fn tan(self) -> Self {
+            Self::of_f32(self.as_f32().tan())
+        }
+        #[inline(always)]
+        fn powi(self, n: i32) -> Self {
+            Self::of_f32(self.as_f32().powi(n))
+        }
+        #[inline(always)]
+        fn max(self, other: Self) -> Self {
+            Self::of_f32(self.as_f32().max(other.as_f32()))
+        }
+        #[inline(always)]
+        fn min(self, other: Self) -> Self {
+            Self::of_f32(self.as_f32().min(other.as_f32()))
+        }
+        #[inline(always)]
+        fn clamp(self, min: Self, max: Self) -> Self {
+            Self::of_f32(self.as_f32().clamp(min.as_f32(), max.as_f32()))
+        }
+    }
+
+    impl Float for f32 {
+        #[inline(always)]
+        fn of_f32(x: f32) -> Self {
+            x
+        }
+        #[inline(always)]
+        fn as_f32(self) -> f32 {
+            self
+        }
+    }
+}
+
+pub mod real {
+    pub use crate::float::Float as Real;
+}
+
+pub use float::Float;
