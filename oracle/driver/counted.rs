@@ -1,18 +1,22 @@
-//! An f32 that counts the additions and subtractions made with it. The sources' generic functions, run unchanged
-//! with this type, thereby tell how many steps they make; and a loop that would never end is stopped.
+//! An f32 that counts what is done with it. The sources' generic code, run unchanged with this type, thereby tells how
+//! many steps it makes; and a loop that would never end is stopped.
 
 use crate::panics::caught;
+use holsatus::fields::Fields;
 use num_traits::Float;
 use std::cell::Cell;
 use std::ops::{Add, AddAssign, Div, Mul, Neg, Sub, SubAssign};
 use std::panic::resume_unwind;
 
+/// More wrapping steps than these are refused.
+pub const MOST_STEPS: u32 = 64;
+
 #[derive(Clone, Copy, Debug, PartialEq, PartialOrd)]
 pub struct Counted(pub f32);
 
-/// Why `counting` has no value.
+/// Why a count has no value.
 pub enum Stopped {
-    /// One addition or subtraction more than the limit was about to be made.
+    /// One operation more than the limit was about to be made.
     PastLimit,
     /// The Rust itself panicked.
     Panic,
@@ -21,6 +25,9 @@ pub enum Stopped {
 thread_local! {
     static DONE: Cell<u32> = const { Cell::new(0) };
     static LIMIT: Cell<u32> = const { Cell::new(0) };
+    /// What is counted: every addition and subtraction, or where addresses stand here, `+=` and `-=` on a number
+    /// that does not lie between them.
+    static OUTSIDE: Cell<Option<(usize, usize)>> = const { Cell::new(None) };
 }
 
 /// What unwinds from the operation past the limit; private, so nothing else can be taken for it.
@@ -29,8 +36,22 @@ struct PastLimit;
 /// The value of `run` and how many additions and subtractions of `Counted` it made, at most `limit`.
 #[inline]
 pub fn counting<T>(limit: u32, run: impl FnOnce() -> T) -> Result<(T, u32), Stopped> {
+    count_in(limit, None, run)
+}
+
+/// The value of `run` and how often it changed, by `+=` or `-=`, a `Counted` that is not a field of `state`: at most
+/// `limit` times.
+#[inline]
+pub fn counting_outside<S, T>(limit: u32, state: &mut S, run: impl FnOnce(&mut S) -> T) -> Result<(T, u32), Stopped> {
+    let address = state as *const S as usize;
+    count_in(limit, Some((address, address + size_of::<S>())), || run(state))
+}
+
+#[inline]
+fn count_in<T>(limit: u32, outside: Option<(usize, usize)>, run: impl FnOnce() -> T) -> Result<(T, u32), Stopped> {
     DONE.set(0);
     LIMIT.set(limit);
+    OUTSIDE.set(outside);
     match caught(run) {
         Ok(value) => Ok((value, DONE.get())),
         Err(payload) if payload.is::<PastLimit>() => Err(Stopped::PastLimit),
@@ -45,6 +66,30 @@ fn count() {
         resume_unwind(Box::new(PastLimit));
     }
     DONE.set(done + 1);
+}
+
+#[inline(always)]
+fn count_operation() {
+    if OUTSIDE.get().is_none() {
+        count();
+    }
+}
+
+#[inline(always)]
+fn count_change(of: &Counted) {
+    let place = of as *const Counted as usize;
+    if OUTSIDE.get().is_some_and(|(from, to)| !(from..to).contains(&place)) {
+        count();
+    }
+}
+
+impl Fields for Counted {
+    fn read(words: &mut dyn Iterator<Item = u32>) -> Self {
+        Counted(f32::read(words))
+    }
+    fn write(&self, to: &mut dyn FnMut(u32)) {
+        self.0.write(to);
+    }
 }
 
 impl Float for Counted {
@@ -62,7 +107,7 @@ impl Add for Counted {
     type Output = Self;
     #[inline(always)]
     fn add(self, other: Self) -> Self {
-        count();
+        count_operation();
         Counted(self.0 + other.0)
     }
 }
@@ -71,7 +116,7 @@ impl Sub for Counted {
     type Output = Self;
     #[inline(always)]
     fn sub(self, other: Self) -> Self {
-        count();
+        count_operation();
         Counted(self.0 - other.0)
     }
 }
@@ -79,6 +124,7 @@ impl Sub for Counted {
 impl AddAssign for Counted {
     #[inline(always)]
     fn add_assign(&mut self, other: Self) {
+        count_change(self);
         *self = *self + other;
     }
 }
@@ -86,6 +132,7 @@ impl AddAssign for Counted {
 impl SubAssign for Counted {
     #[inline(always)]
     fn sub_assign(&mut self, other: Self) {
+        count_change(self);
         *self = *self - other;
     }
 }

@@ -1,6 +1,6 @@
 //! Call lines from a seed: those of the parts, and about one in two hundred of them damaged.
 
-use crate::parts::Entry;
+use crate::parts::Part;
 use crate::protocol::{word, LONGEST};
 use crate::random::Random;
 
@@ -22,23 +22,27 @@ impl Line {
     }
 }
 
+/// Makes one well-formed line; it may remember what it has made.
+pub type Maker = dyn FnMut(&mut Random, &mut Line) + Send;
+
 /// The lines of some parts, without end.
 pub struct Generator {
     random: Random,
-    parts: Vec<&'static Entry>,
+    makers: Vec<Box<Maker>>,
     line: Line,
 }
 
 impl Generator {
-    pub fn new(seed: u64, parts: Vec<&'static Entry>) -> Self {
-        Generator { random: Random::new(seed), parts, line: Line::default() }
+    pub fn new(seed: u64, parts: &[&Part]) -> Self {
+        let makers = parts.iter().map(|part| (part.lines)()).collect();
+        Generator { random: Random::new(seed), makers, line: Line::default() }
     }
 
     pub fn next_line(&mut self) -> &[u8] {
         let r = &mut self.random;
         self.line.bytes.clear();
-        let part = r.one_of(&self.parts);
-        (part.line)(r, &mut self.line);
+        let maker = r.below(self.makers.len());
+        self.makers[maker](r, &mut self.line);
         if r.once_in(DAMAGED_ONE_IN) {
             let damage = r.one_of(&DAMAGES);
             damage(r, &mut self.line.bytes);

@@ -3,7 +3,9 @@
 pub mod check;
 pub mod counted;
 pub mod generator;
+pub mod kinds;
 pub mod known;
+pub mod life;
 pub mod lines;
 pub mod options;
 pub mod panics;
@@ -11,4 +13,6 @@ pub mod parts;
 pub mod patterns;
 pub mod protocol;
 pub mod random;
+pub mod ranges;
+pub mod states;
 pub mod values;

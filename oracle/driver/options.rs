@@ -1,6 +1,6 @@
 //! The options of the programs that make lines.
 
-use crate::parts::{Entry, ALL};
+use crate::parts::{Part, ALL};
 use std::process::exit;
 
 /// A run with `--quick` is always the same.
@@ -10,7 +10,7 @@ const QUICK_SEED: u64 = 1;
 pub struct Options {
     pub seed: u64,
     pub lines: u64,
-    pub parts: Vec<&'static Entry>,
+    pub parts: Vec<&'static Part>,
     /// The program to compare with.
     pub calls: String,
     /// Only lines that can stand in a fixed list.
@@ -20,8 +20,7 @@ pub struct Options {
 impl Options {
     /// The options of this run, or the end of it with a word on what is wrong.
     pub fn read(lines: u64) -> Self {
-        let mut options =
-            Options { seed: 1, lines, parts: ALL.iter().collect(), calls: String::new(), listed: false };
+        let mut options = Options { seed: 1, lines, parts: ALL.iter().collect(), calls: String::new(), listed: false };
         let mut words = std::env::args().skip(1);
         while let Some(word) = words.next() {
             let mut value = || words.next().unwrap_or_else(|| wrong(&format!("{word} needs a value")));
@@ -43,9 +42,9 @@ fn number(text: &str) -> u64 {
     text.replace([',', '_'], "").parse().unwrap_or_else(|_| wrong(&format!("not a number: {text}")))
 }
 
-fn part(name: &str) -> &'static Entry {
-    ALL.iter().find(|entry| entry.name == name).unwrap_or_else(|| {
-        let names: Vec<_> = ALL.iter().map(|entry| entry.name).collect();
+fn part(name: &str) -> &'static Part {
+    ALL.iter().find(|part| part.name == name).unwrap_or_else(|| {
+        let names: Vec<_> = ALL.iter().map(|part| part.name).collect();
         wrong(&format!("no part {name}; there is {}", names.join(", ")))
     })
 }

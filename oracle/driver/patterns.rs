@@ -17,9 +17,8 @@ struct Found {
 /// Compares on every pattern, prints what was found, and tells whether the two functions are the same.
 pub fn same_on_all(what: &str, rust: fn(f32) -> f32, other: fn(f32) -> f32) -> bool {
     let share = ALL / THREADS;
-    let threads: Vec<_> = (0..THREADS)
-        .map(|i| thread::spawn(move || compare(i * share..(i + 1) * share, rust, other)))
-        .collect();
+    let threads: Vec<_> =
+        (0..THREADS).map(|i| thread::spawn(move || compare(i * share..(i + 1) * share, rust, other))).collect();
     let found: Vec<Found> = threads.into_iter().map(|thread| thread.join().unwrap()).collect();
     for line in found.iter().flat_map(|part| &part.first) {
         println!("{what} {line}");

@@ -2,6 +2,8 @@
 
 use crate::panics::silence_awaited;
 use crate::parts;
+pub use holsatus::fields::written;
+use holsatus::fields::Fields;
 use std::collections::HashMap;
 use std::sync::Once;
 
@@ -10,18 +12,6 @@ pub const LONGEST: usize = 2_000;
 
 /// The bytes of an operand or a result: a space and eight digits.
 const WORD: usize = 9;
-
-const NAN: u32 = 0x7fc0_0000;
-
-/// A float's bits as they are written: NaNs are one.
-#[inline]
-pub fn written(x: f32) -> u32 {
-    if x.is_nan() {
-        NAN
-    } else {
-        x.to_bits()
-    }
-}
 
 /// The operands of a call whose form has been judged, each read as what it is.
 pub struct Operands<'a>(&'a [u32]);
@@ -47,6 +37,17 @@ impl Operands<'_> {
     #[inline]
     pub fn float(&self, i: usize) -> f32 {
         f32::from_bits(written(f32::from_bits(self.0[i])))
+    }
+
+    /// The float after the last one that a call must have, where it is given.
+    #[inline]
+    pub fn optional_float(&self, i: usize) -> Option<f32> {
+        (i < self.0.len()).then(|| self.float(i))
+    }
+
+    /// A value of as many words as stand from that operand on.
+    pub fn fields<T: Fields>(&self, from: usize) -> T {
+        T::read(&mut self.0[from..].iter().copied())
     }
 }
 
@@ -75,6 +76,11 @@ impl Answer<'_> {
         self
     }
 
+    pub fn fields(&mut self, of: &impl Fields) -> &mut Self {
+        of.write(&mut |n| word(n, self.0));
+        self
+    }
+
     /// The Rust has no answer to this call.
     pub fn none(&mut self) {
         self.0.push(b'-');
@@ -84,26 +90,26 @@ impl Answer<'_> {
 /// One call of a part whose states are an `S`.
 pub struct Call<S: 'static> {
     pub name: &'static str,
-    /// A letter an operand: f a float, n a number, b a bool. A final `*` is any number more of the letter before it,
-    /// a final `?` says that the operand before it may be left out.
+    /// A letter an operand: f a float, n a number, b a bool, l a lane that there is. A final `*` is any number more of
+    /// the letter before it, a final `?` says that the operand before it may be left out.
     pub form: &'static str,
     pub run: fn(&mut S, &Operands, &mut Answer),
 }
 
-/// A part: its calls and the states that they work on.
+/// Calls and the state that they work on.
 pub struct Table<S: 'static> {
     pub state: S,
     pub calls: &'static [Call<S>],
 }
 
-/// A part whose kind of state is not named.
-pub trait Part {
+/// A table whose kind of state is not named.
+pub trait Calls {
     /// The names and forms of the calls, in the order that `run` knows them by.
     fn calls(&self) -> Vec<(&'static str, &'static str)>;
     fn run(&mut self, call: usize, operands: &Operands, answer: &mut Answer);
 }
 
-impl<S> Part for Table<S> {
+impl<S> Calls for Table<S> {
     fn calls(&self) -> Vec<(&'static str, &'static str)> {
         self.calls.iter().map(|call| (call.name, call.form)).collect()
     }
@@ -117,13 +123,13 @@ impl<S> Part for Table<S> {
 #[derive(Clone, Copy)]
 struct Place {
     id: usize,
-    part: usize,
+    table: usize,
     call: usize,
     form: &'static str,
 }
 
 pub struct Driver {
-    parts: Vec<Box<dyn Part>>,
+    tables: Vec<Box<dyn Calls>>,
     names: Vec<&'static str>,
     places: HashMap<&'static [u8], Place>,
     operands: Vec<u32>,
@@ -134,16 +140,16 @@ impl Driver {
         static HOOK: Once = Once::new();
         HOOK.call_once(silence_awaited);
         let mut driver = Driver {
-            parts: parts::ALL.iter().map(|entry| (entry.part)()).collect(),
+            tables: parts::ALL.iter().flat_map(|part| (part.tables)()).collect(),
             names: Vec::new(),
             places: HashMap::new(),
             operands: Vec::new(),
         };
-        for (part, table) in driver.parts.iter().enumerate() {
-            for (call, (name, form)) in table.calls().into_iter().enumerate() {
+        for (table, calls) in driver.tables.iter().enumerate() {
+            for (call, (name, form)) in calls.calls().into_iter().enumerate() {
                 let id = driver.names.len();
                 driver.names.push(name);
-                driver.places.insert(name.as_bytes(), Place { id, part, call, form });
+                driver.places.insert(name.as_bytes(), Place { id, table, call, form });
             }
         }
         driver
@@ -161,7 +167,7 @@ impl Driver {
             out.push(b'?');
             return None;
         };
-        self.parts[place.part].run(place.call, &Operands(&self.operands), &mut Answer(out));
+        self.tables[place.table].run(place.call, &Operands(&self.operands), &mut Answer(out));
         Some(place.id)
     }
 
@@ -222,8 +228,17 @@ fn fits(form: &[u8], operands: &[u32]) -> bool {
         [letters @ .., b'?'] => (letters, letters.len() - 1, letters.len()),
         letters => (letters, letters.len(), letters.len()),
     };
-    (least..=most).contains(&operands.len())
-        && letters.iter().zip(operands).all(|(&letter, &n)| letter != b'b' || n <= 1)
+    (least..=most).contains(&operands.len()) && letters.iter().zip(operands).all(|(&letter, &n)| n <= largest(letter))
+}
+
+/// The largest operand of that letter.
+#[inline]
+fn largest(letter: u8) -> u32 {
+    match letter {
+        b'b' => 1,
+        b'l' => 7,
+        _ => u32::MAX,
+    }
 }
 
 /// Appends a space and eight digits.

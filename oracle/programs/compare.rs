@@ -46,7 +46,7 @@ fn main() -> Result<()> {
 
     // The channel is not bounded, so writing never waits for the comparison; the pipes keep it short all the same.
     let (sender, runs) = channel();
-    let generator = Generator::new(options.seed, options.parts);
+    let generator = Generator::new(options.seed, &options.parts);
     let without_last_feed = options.seed % 2 == 1;
     let writer = thread::spawn(move || write_lines(generator, options.lines, without_last_feed, input, sender));
 

@@ -7,7 +7,7 @@ use std::io::{stdout, BufWriter, Result, Write};
 
 fn main() -> Result<()> {
     let options = Options::read(1_000);
-    let mut generator = Generator::new(options.seed, options.parts);
+    let mut generator = Generator::new(options.seed, &options.parts);
     let mut driver = Driver::new();
     let mut answer = Vec::new();
     let mut output = BufWriter::with_capacity(1 << 16, stdout().lock());

@@ -1,5 +1,5 @@
 //! Stands in for the crate `num_traits`: one trait, named both `Float` and `real::Real`, with the methods that the
-//! sources use. Every method is std's own method on f32, so no arithmetic is written here.
+//! sources use. Every method but `clamp` is std's own method on f32, so no arithmetic is written here.
 
 pub mod float {
     use core::ops::{Add, Div, Mul, Neg, Sub};
@@ -71,9 +71,17 @@ pub mod float {
         fn min(self, other: Self) -> Self {
             Self::of_f32(self.as_f32().min(other.as_f32()))
         }
+        /// As num_traits 0.2 has it: unlike std's, it answers where the bounds are in the wrong order or NaN.
         #[inline(always)]
         fn clamp(self, min: Self, max: Self) -> Self {
-            Self::of_f32(self.as_f32().clamp(min.as_f32(), max.as_f32()))
+            debug_assert!(min <= max, "min must be less than or equal to max");
+            if self < min {
+                min
+            } else if self > max {
+                max
+            } else {
+                self
+            }
         }
     }
 

@@ -2,9 +2,17 @@
 ghost use Prim.Native.Nat.{_*_, _≤_};
 ghost use lib.ListN.{length};
 use super::numbers;
+use super::of_curves;
+use super::of_filters;
+use super::of_motors;
+use super::of_statistics;
+use super::of_tables;
 use super::text;
 use super::told;
 use super::told::Told;
+
+// As many operands as a line has room for, and as many results.
+const WORDS: usize = 224;
 
 // A word of 8 digits, or none.
 struct Word {
@@ -66,8 +74,27 @@ fn operands(rest: &[u8], count: usize, ops: &mut [u32]) -> bool
 }
 
 // The part that knows the call. Each later crate adds its own part here.
-fn tell(name: &[u8], ops: &[u32], res: &mut [u32]) -> Told {
-    numbers::tell(name, ops, res)
+fn tell(name: &[u8], ops: &[u32], states: &mut [u32], res: &mut [u32]) -> Told {
+    match numbers::tell(name, ops, res) {
+        Told::Answer(refusal, n) => Told::Answer(refusal, n),
+        Told::Nothing => tell_more(name, ops, states, res),
+    }
+}
+
+fn tell_more(name: &[u8], ops: &[u32], states: &mut [u32], res: &mut [u32]) -> Told {
+    if told::begins(name, b"motor_lin.") {
+        return of_motors::tell(name, ops, states, res);
+    }
+    if told::begins(name, b"statistics.") {
+        return of_statistics::tell(name, ops, states, res);
+    }
+    if told::same(name, b"linear_lut") {
+        return of_tables::tell(ops, res);
+    }
+    match of_curves::tell(name, ops, res) {
+        Told::Answer(refusal, n) => Told::Answer(refusal, n),
+        Told::Nothing => of_filters::tell(name, ops, states, res),
+    }
 }
 
 // The refusal's number and the results.
@@ -82,7 +109,7 @@ fn put_answer(refusal: u32, res: &[u32], out: &mut [u8], at: usize) -> usize {
 }
 
 // Reads a line and makes its call.
-fn tell_line(line: &[u8], ops: &mut [u32], res: &mut [u32]) -> Told {
+fn tell_line(line: &[u8], ops: &mut [u32], states: &mut [u32], res: &mut [u32]) -> Told {
     let end = name_end(line);
     let rest = line.len() - end;
     let count = rest / 9;
@@ -93,15 +120,28 @@ fn tell_line(line: &[u8], ops: &mut [u32], res: &mut [u32]) -> Told {
         return Told::Nothing;
     }
     if operands(&line[end..], count, ops) {
-        return tell(&line[..end], &ops[..count], res);
+        return tell(&line[..end], &ops[..count], states, res);
     }
     Told::Nothing
 }
 
-// Writes the answer to a line from a place of out on, and answers the next place. The operands and the results have their
-// place in ops and res.
-pub fn answer(line: &[u8], ops: &mut [u32], res: &mut [u32], out: &mut [u8], at: usize) -> usize {
-    match tell_line(line, ops, res) {
+// Writes the answer to a line from a place of out on, and answers the next place.
+pub fn answer(line: &[u8], states: &mut [u32], out: &mut [u8], at: usize) -> usize {
+    let mut ops = [0u32; WORDS];
+    let mut res = [0u32; WORDS];
+    answer_in(line, &mut ops, states, &mut res, out, at)
+}
+
+// The same with a place for the operands and for the results.
+fn answer_in(
+    line: &[u8],
+    ops: &mut [u32],
+    states: &mut [u32],
+    res: &mut [u32],
+    out: &mut [u8],
+    at: usize,
+) -> usize {
+    match tell_line(line, ops, states, res) {
         Told::Nothing => text::malformed(out, at),
         Told::Answer(refusal, n) => {
             if res.len() < n {

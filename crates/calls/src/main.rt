@@ -1,6 +1,12 @@
 // Makes every public call by a line of text, one answer a line: docs/CALLS.md has the form of the lines.
 mod line;
 mod numbers;
+mod of_curves;
+mod of_filters;
+mod of_motors;
+mod of_statistics;
+mod of_tables;
+mod states;
 mod text;
 mod told;
 
@@ -18,9 +24,6 @@ struct Place {
 
 // The longest line.
 const LINE: usize = 2000;
-
-// As many operands as a line has room for, and as many results.
-const WORDS: usize = 224;
 
 // Answers are written out before fewer bytes than this are left for the next, which is more than the longest answer.
 const ROOM: usize = 1024;
@@ -44,7 +47,7 @@ fn flush(p: Place, out: &[u8]) -> Place {
 }
 
 // Answers the line that has come, and answers how many bytes wait then.
-fn put_line(p: Place, line: &[u8], ops: &mut [u32], res: &mut [u32], out: &mut [u8]) -> usize {
+fn put_line(p: Place, line: &[u8], states: &mut [u32], out: &mut [u8]) -> usize {
     let kept = p.kept;
     if p.long {
         return text::malformed(out, p.wait);
@@ -52,7 +55,7 @@ fn put_line(p: Place, line: &[u8], ops: &mut [u32], res: &mut [u32], out: &mut [
     if line.len() < kept {
         return text::malformed(out, p.wait);
     }
-    line::answer(&line[..kept], ops, res, out, p.wait)
+    line::answer(&line[..kept], states, out, p.wait)
 }
 
 fn has_room(out: &[u8], wait: usize) -> bool {
@@ -63,8 +66,8 @@ fn has_room(out: &[u8], wait: usize) -> bool {
 }
 
 // Answers the line that has come, and begins the next.
-fn end_line(p: Place, line: &[u8], ops: &mut [u32], res: &mut [u32], out: &mut [u8]) -> Place {
-    let wait = put_line(p, line, ops, res, out);
+fn end_line(p: Place, line: &[u8], states: &mut [u32], out: &mut [u8]) -> Place {
+    let wait = put_line(p, line, states, out);
     let next = Place {
         kept: 0,
         long: false,
@@ -78,16 +81,9 @@ fn end_line(p: Place, line: &[u8], ops: &mut [u32], res: &mut [u32], out: &mut [
 }
 
 // Takes one byte of the input.
-fn take_byte(
-    p: Place,
-    b: u8,
-    line: &mut [u8],
-    ops: &mut [u32],
-    res: &mut [u32],
-    out: &mut [u8],
-) -> Place {
+fn take_byte(p: Place, b: u8, line: &mut [u8], states: &mut [u32], out: &mut [u8]) -> Place {
     if b == b'\n' {
-        return end_line(p, line, ops, res, out);
+        return end_line(p, line, states, out);
     }
     if LINE <= p.kept {
         return Place {
@@ -111,40 +107,32 @@ fn take_bytes(
     p: Place,
     input: &[u8],
     line: &mut [u8],
-    ops: &mut [u32],
-    res: &mut [u32],
+    states: &mut [u32],
     out: &mut [u8],
 ) -> Place {
     let mut q = p;
     let mut i = 0;
     while i < input.len() && q.ok {
-        q = take_byte(q, input[i], line, ops, res, out);
+        q = take_byte(q, input[i], line, states, out);
         i += 1;
     }
     q
 }
 
 // One read and the answers to the lines that it ended. At the end of the input a line that was begun counts as ended.
-fn turn(
-    p: Place,
-    input: &mut [u8],
-    line: &mut [u8],
-    ops: &mut [u32],
-    res: &mut [u32],
-    out: &mut [u8],
-) -> Place {
+fn turn(p: Place, input: &mut [u8], line: &mut [u8], states: &mut [u32], out: &mut [u8]) -> Place {
     let n = io::count(libc::read(STDIN_FILENO, input), input);
     if n == 0 {
-        return last(p, line, ops, res, out);
+        return last(p, line, states, out);
     }
-    let q = take_bytes(p, &input[..n], line, ops, res, out);
+    let q = take_bytes(p, &input[..n], line, states, out);
     flush(q, out)
 }
 
-fn last(p: Place, line: &mut [u8], ops: &mut [u32], res: &mut [u32], out: &mut [u8]) -> Place {
+fn last(p: Place, line: &mut [u8], states: &mut [u32], out: &mut [u8]) -> Place {
     let mut q = p;
     if 0 < p.kept {
-        q = flush(end_line(p, line, ops, res, out), out);
+        q = flush(end_line(p, line, states, out), out);
     }
     q.ok = false;
     q
@@ -152,7 +140,7 @@ fn last(p: Place, line: &mut [u8], ops: &mut [u32], res: &mut [u32], out: &mut [
 
 // A proved loop has to end, and nothing says that the input does: so the turns are counted down, from a number that no run
 // uses up.
-fn run(input: &mut [u8], line: &mut [u8], ops: &mut [u32], res: &mut [u32], out: &mut [u8]) {
+fn run(input: &mut [u8], line: &mut [u8], states: &mut [u32], out: &mut [u8]) {
     let mut p = Place {
         kept: 0,
         long: false,
@@ -161,7 +149,7 @@ fn run(input: &mut [u8], line: &mut [u8], ops: &mut [u32], res: &mut [u32], out:
     };
     let mut turns = u64::MAX;
     while turns > 0 && p.ok {
-        p = turn(p, input, line, ops, res, out);
+        p = turn(p, input, line, states, out);
         turns -= 1;
     }
 }
@@ -169,8 +157,7 @@ fn run(input: &mut [u8], line: &mut [u8], ops: &mut [u32], res: &mut [u32], out:
 fn main() {
     let mut input = io::large_buffer();
     let mut line = io::buffer();
-    let mut ops = [0u32; WORDS];
-    let mut res = [0u32; WORDS];
+    let mut states = [0u32; states::ALL];
     let mut out = io::large_buffer();
-    run(&mut input, &mut line, &mut ops, &mut res, &mut out);
+    run(&mut input, &mut line, &mut states, &mut out);
 }

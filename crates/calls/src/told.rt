@@ -23,6 +23,31 @@ pub fn same(name: &[u8], w: &[u8]) -> bool {
     true
 }
 
+// Whether the line is this call: its name, and as many operands as it takes.
+pub fn is(name: &[u8], w: &[u8], ops: &[u32], count: usize) -> bool {
+    if ops.len() != count {
+        return false;
+    }
+    same(name, w)
+}
+
+// The same for a call whose operand i is a bool.
+pub fn is_on(name: &[u8], w: &[u8], ops: &[u32], count: usize, i: usize) -> bool {
+    if 1 < word(ops, i) {
+        return false;
+    }
+    is(name, w, ops, count)
+}
+
+// Whether the name begins with this.
+pub fn begins(name: &[u8], w: &[u8]) -> bool {
+    if name.len() < w.len() {
+        return false;
+    }
+    let n = w.len();
+    same(&name[..n], w)
+}
+
 pub fn word(ops: &[u32], i: usize) -> u32 {
     if i < ops.len() { ops[i] } else { 0 }
 }
@@ -39,6 +64,14 @@ pub fn put_word(res: &mut [u32], i: usize, v: u32) {
 
 pub fn put_number(res: &mut [u32], i: usize, x: f32) {
     put_word(res, i, float::to_bits(x));
+}
+
+pub fn put_bool(res: &mut [u32], i: usize, b: bool) {
+    if b {
+        put_word(res, i, 1);
+    } else {
+        put_word(res, i, 0);
+    }
 }
 
 // An answer of one number, nothing refused.

@@ -3,15 +3,12 @@
 mod lines;
 
 use crate::check::same;
-use crate::counted::{counting, Counted, Stopped};
+use crate::counted::{counting, Counted, Stopped, MOST_STEPS};
 use crate::panics::caught;
-use crate::protocol::{Answer, Call, Operands, Part, Table};
+use crate::protocol::{Answer, Call, Calls, Operands, Table};
 use holsatus::utils::func;
-pub use lines::line;
+pub use lines::lines;
 use std::hint::black_box;
-
-/// More wrapping steps than these are refused.
-const MOST_STEPS: u32 = 64;
 
 const CALLS: &[Call<()>] = &[
     Call { name: "max", form: "ff", run: |_, x, to| result(x.float(0).max(x.float(1)), to) },
@@ -25,8 +22,8 @@ const CALLS: &[Call<()>] = &[
     Call { name: "wrap", form: "fff", run: |_, x, to| wrap(x, to) },
 ];
 
-pub fn part() -> Box<dyn Part> {
-    Box::new(Table { state: (), calls: CALLS })
+pub fn tables() -> Vec<Box<dyn Calls>> {
+    vec![Box::new(Table { state: (), calls: CALLS })]
 }
 
 fn result(y: f32, to: &mut Answer) {

@@ -34,9 +34,6 @@ same-length-3 c = search needs
 same-length-4 : tie.Need-same-length-4
 same-length-4 c = search needs
 
-same-length-5 : tie.Need-same-length-5
-same-length-5 c = search needs
-
 returns-3 : tie.Need-returns-3
 returns-3 c = search needs
 
@@ -54,5 +51,4 @@ put-line-spec =
     answer-requires
     same-length-3
     same-length-4
-    same-length-5
     returns-3)

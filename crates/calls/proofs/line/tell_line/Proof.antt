@@ -30,15 +30,13 @@ operands-requires : tie.Need-operands-requires
 operands-requires c κs = search needs
 
 slice-aggregate-tell : tie.Need-slice-aggregate-tell
-slice-aggregate-tell c = sym (length-take-le _ _ (c .before .before .before .before .before .before .before .before .before .name-end .ensures))
+slice-aggregate-tell c = sym (length-take-le _ _ (omega arith))
 
 slice-reshare-prefix-tell : tie.Need-slice-reshare-prefix-tell
 slice-reshare-prefix-tell c = search needs
 
 slice-aggregate-tell-2 : tie.Need-slice-aggregate-tell-2
-slice-aggregate-tell-2 c =
-    let at-if = c .before .before .before .before .before .before .before .before in
-    sym (length-take-le _ _ (omega (arith, at-if .if2 .left, c .before .before .before .before .before .operands .kept .1 .1 .0)))
+slice-aggregate-tell-2 c = sym (length-take-le _ _ (omega arith))
 
 tell-requires : tie.Need-tell-requires
 tell-requires c κs = search needs
@@ -49,11 +47,14 @@ same-length c = search needs
 same-length-2 : tie.Need-same-length-2
 same-length-2 c = search needs
 
+same-length-3 : tie.Need-same-length-3
+same-length-3 c = search needs
+
 returns-3 : tie.Need-returns-3
 returns-3 c = search needs
 
-same-length-3 : tie.Need-same-length-3
-same-length-3 c = search needs
+same-length-4 : tie.Need-same-length-4
+same-length-4 c = search needs
 
 returns-4 : tie.Need-returns-4
 returns-4 c = search needs
@@ -76,6 +77,7 @@ tell-line-spec =
     tell-requires
     same-length
     same-length-2
-    returns-3
     same-length-3
+    returns-3
+    same-length-4
     returns-4)

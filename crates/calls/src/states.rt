@@ -1,0 +1,273 @@
+// The states' fields as words, in the order in which docs/CALLS.md has them. A state is kept as its words between two calls, so that
+// showing it and setting it by hand are these two directions.
+ghost use Prim.Native.Nat.{_<_};
+use super::told;
+use filters::Complementary;
+use filters::Highpass;
+use filters::IntegratingComplementary;
+use filters::IntegratingHighpass;
+use filters::Lowpass;
+use filters::MovingAverage;
+use filters::NthOrderLowpass;
+use filters::SlewRate;
+use motor_lin::Command;
+use motor_lin::MotorLin;
+use motor_lin::Thrust;
+use statistics::Statistics;
+
+// Where each state's words begin.
+pub const LOWPASS: usize = 0;
+
+pub const LOWPASS2: usize = 5;
+
+pub const HIGHPASS: usize = 15;
+
+pub const COMPLEMENTARY: usize = 20;
+
+pub const INTEGRATING_HIGHPASS: usize = 30;
+
+pub const INTEGRATING_COMPLEMENTARY: usize = 34;
+
+pub const MOVING_AVERAGE: usize = 38;
+
+pub const SLEW_RATE: usize = 56;
+
+pub const MOTOR_LIN: usize = 59;
+
+pub const STATISTICS: usize = 65;
+
+// All of them together.
+pub const ALL: usize = 69;
+
+pub fn lowpass_at(w: &[u32], at: usize) -> Lowpass
+    requires { ⌜ at < 4096 ⌝ }
+{
+    Lowpass {
+        tau: told::number(w, at),
+        dt: told::number(w, at + 1),
+        y: told::number(w, at + 2),
+        alpha0: told::number(w, at + 3),
+        alpha1: told::number(w, at + 4),
+    }
+}
+
+pub fn put_lowpass(w: &mut [u32], at: usize, f: Lowpass)
+    requires { ⌜ at < 4096 ⌝ }
+{
+    told::put_number(w, at, f.tau);
+    told::put_number(w, at + 1, f.dt);
+    told::put_number(w, at + 2, f.y);
+    told::put_number(w, at + 3, f.alpha0);
+    told::put_number(w, at + 4, f.alpha1);
+}
+
+pub fn highpass_at(w: &[u32], at: usize) -> Highpass
+    requires { ⌜ at < 4096 ⌝ }
+{
+    Highpass {
+        tau: told::number(w, at),
+        dt: told::number(w, at + 1),
+        y: told::number(w, at + 2),
+        x_prev: told::number(w, at + 3),
+        alpha: told::number(w, at + 4),
+    }
+}
+
+pub fn put_highpass(w: &mut [u32], at: usize, f: Highpass)
+    requires { ⌜ at < 4096 ⌝ }
+{
+    told::put_number(w, at, f.tau);
+    told::put_number(w, at + 1, f.dt);
+    told::put_number(w, at + 2, f.y);
+    told::put_number(w, at + 3, f.x_prev);
+    told::put_number(w, at + 4, f.alpha);
+}
+
+pub fn integrating_highpass_at(w: &[u32], at: usize) -> IntegratingHighpass
+    requires { ⌜ at < 4096 ⌝ }
+{
+    IntegratingHighpass {
+        tau: told::number(w, at),
+        dt: told::number(w, at + 1),
+        alpha: told::number(w, at + 2),
+        y_prev: told::number(w, at + 3),
+    }
+}
+
+pub fn put_integrating_highpass(w: &mut [u32], at: usize, f: IntegratingHighpass)
+    requires { ⌜ at < 4096 ⌝ }
+{
+    told::put_number(w, at, f.tau);
+    told::put_number(w, at + 1, f.dt);
+    told::put_number(w, at + 2, f.alpha);
+    told::put_number(w, at + 3, f.y_prev);
+}
+
+pub fn integrating_complementary_at(w: &[u32], at: usize) -> IntegratingComplementary
+    requires { ⌜ at < 4096 ⌝ }
+{
+    IntegratingComplementary {
+        tau: told::number(w, at),
+        dt: told::number(w, at + 1),
+        alpha: told::number(w, at + 2),
+        y_prev: told::number(w, at + 3),
+    }
+}
+
+pub fn put_integrating_complementary(w: &mut [u32], at: usize, f: IntegratingComplementary)
+    requires { ⌜ at < 4096 ⌝ }
+{
+    told::put_number(w, at, f.tau);
+    told::put_number(w, at + 1, f.dt);
+    told::put_number(w, at + 2, f.alpha);
+    told::put_number(w, at + 3, f.y_prev);
+}
+
+pub fn slew_rate_at(w: &[u32], at: usize) -> SlewRate
+    requires { ⌜ at < 4096 ⌝ }
+{
+    SlewRate {
+        rate_limit: told::number(w, at),
+        signal: told::number(w, at + 1),
+        dt: told::number(w, at + 2),
+    }
+}
+
+pub fn put_slew_rate(w: &mut [u32], at: usize, f: SlewRate)
+    requires { ⌜ at < 4096 ⌝ }
+{
+    told::put_number(w, at, f.rate_limit);
+    told::put_number(w, at + 1, f.signal);
+    told::put_number(w, at + 2, f.dt);
+}
+
+pub fn lowpass2_at(w: &[u32], at: usize) -> NthOrderLowpass
+    requires { ⌜ at < 4000 ⌝ }
+{
+    let first = lowpass_at(w, at);
+    let second = lowpass_at(w, at + 5);
+    NthOrderLowpass { first, second }
+}
+
+pub fn put_lowpass2(w: &mut [u32], at: usize, f: NthOrderLowpass)
+    requires { ⌜ at < 4000 ⌝ }
+{
+    let first = f.first;
+    let second = f.second;
+    put_lowpass(w, at, first);
+    put_lowpass(w, at + 5, second);
+}
+
+pub fn complementary_at(w: &[u32], at: usize) -> Complementary
+    requires { ⌜ at < 4000 ⌝ }
+{
+    let lp_filter = lowpass_at(w, at);
+    let hp_filter = highpass_at(w, at + 5);
+    Complementary {
+        lp_filter,
+        hp_filter,
+    }
+}
+
+pub fn put_complementary(w: &mut [u32], at: usize, f: Complementary)
+    requires { ⌜ at < 4000 ⌝ }
+{
+    let low = f.lp_filter;
+    let high = f.hp_filter;
+    put_lowpass(w, at, low);
+    put_highpass(w, at + 5, high);
+}
+
+fn slots_at(w: &[u32], at: usize) -> [f32; 16]
+    requires { ⌜ at < 4096 ⌝ }
+{
+    let mut slots = [0.0f32; 16];
+    let mut i = 0;
+    while i < 16 {
+        slots[i] = told::number(w, at + i);
+        i += 1;
+    }
+    slots
+}
+
+fn put_slots(w: &mut [u32], at: usize, slots: [f32; 16])
+    requires { ⌜ at < 4096 ⌝ }
+{
+    let mut i = 0;
+    while i < 16 {
+        told::put_number(w, at + i, slots[i]);
+        i += 1;
+    }
+}
+
+pub fn moving_average_at(w: &[u32], at: usize) -> MovingAverage
+    requires { ⌜ at < 4000 ⌝ }
+{
+    let slots = slots_at(w, at + 2);
+    MovingAverage {
+        length: told::word(w, at) as usize,
+        head: told::word(w, at + 1) as usize,
+        slots,
+    }
+}
+
+pub fn put_moving_average(w: &mut [u32], at: usize, f: MovingAverage)
+    requires { ⌜ at < 4000 ⌝ }
+{
+    let slots = f.slots;
+    told::put_word(w, at, (f.length % 0x1_0000_0000) as u32);
+    told::put_word(w, at + 1, (f.head % 0x1_0000_0000) as u32);
+    put_slots(w, at + 2, slots);
+}
+
+pub fn motor_lin_at(w: &[u32], at: usize) -> MotorLin
+    requires { ⌜ at < 4096 ⌝ }
+{
+    let c_min = Command(told::number(w, at + 2));
+    let c_max = Command(told::number(w, at + 3));
+    let f_min = Thrust(told::number(w, at + 4));
+    let f_max = Thrust(told::number(w, at + 5));
+    MotorLin {
+        a: told::number(w, at),
+        b: told::number(w, at + 1),
+        c_min,
+        c_max,
+        f_min,
+        f_max,
+    }
+}
+
+pub fn put_motor_lin(w: &mut [u32], at: usize, f: MotorLin)
+    requires { ⌜ at < 4096 ⌝ }
+{
+    let c_min = f.c_min;
+    let c_max = f.c_max;
+    let f_min = f.f_min;
+    let f_max = f.f_max;
+    told::put_number(w, at, f.a);
+    told::put_number(w, at + 1, f.b);
+    told::put_number(w, at + 2, c_min.0);
+    told::put_number(w, at + 3, c_max.0);
+    told::put_number(w, at + 4, f_min.0);
+    told::put_number(w, at + 5, f_max.0);
+}
+
+pub fn statistics_at(w: &[u32], at: usize) -> Statistics
+    requires { ⌜ at < 4096 ⌝ }
+{
+    Statistics {
+        initialized: told::word(w, at) == 1,
+        alpha: told::number(w, at + 1),
+        mean: told::number(w, at + 2),
+        variance: told::number(w, at + 3),
+    }
+}
+
+pub fn put_statistics(w: &mut [u32], at: usize, f: Statistics)
+    requires { ⌜ at < 4096 ⌝ }
+{
+    told::put_bool(w, at, f.initialized);
+    told::put_number(w, at + 1, f.alpha);
+    told::put_number(w, at + 2, f.mean);
+    told::put_number(w, at + 3, f.variance);
+}

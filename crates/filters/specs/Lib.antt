@@ -1,0 +1,11 @@
+pub mod Complementary
+pub mod Highpass
+pub mod Integrating
+pub mod IntegratingComplementary
+pub mod IntegratingHighpass
+pub mod Lowpass
+pub mod Lowpass2
+pub mod MovingAverage
+pub mod MovingAverageLaws
+pub mod SlewRate
+pub mod SlewRateLaws

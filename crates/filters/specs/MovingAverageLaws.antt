@@ -1,0 +1,50 @@
+-- What the window's calls answer for a bad window, and for a good one. Assumes nothing.
+use mathlib.Core.Path.{_≡_, refl}
+use mathlib.Core.Bool.{Bool, true, false, cond, _||_, true≢false}
+use Prim.Native.Nat.{ℕ, _≤_}
+use borrow.Author.Tests.{ltb-false}
+use lib.Dec.{ltb}
+use lib.Ieee.{Float}
+use Rattle.float.specs.F32 as F
+use Rattle.refusal.specs.declared.Refusal.the-variants as Refusal
+use Rattle.filters.specs.declared.moving_average.MovingAverage.{MovingAverage}
+use Rattle.filters.specs.MovingAverage.{badLength, badWindow, windowOf, windowStore, windowMean, made, answered, newWithValueMovingAverage, stepMovingAverage}
+
+neither : (p q : Bool) → p || q ≡ false → (p ≡ false) × (q ≡ false)
+neither true q h = absurd (true≢false h)
+neither false q h = (refl, h)
+
+either : (b : Bool) (m n : MovingAverage) → m .length ≡ n .length → cond b m n .length ≡ n .length
+either true m n e = e
+either false m n e = refl
+
+-- a good window's length is at most 16, so its slots hold it
+pub length-fits : (length : ℕ) → badLength length ≡ false → length ≤ 16
+unfolding badLength
+length-fits length g = ltb-false 16 length (neither (ltb length 1) (ltb 16 length) g .1)
+
+module _ (length : ℕ) (value : Float) where
+  pub new-refused : badLength length ≡ true → newWithValueMovingAverage length value ≡ made Refusal.Window (windowOf 0 F.zero)
+  unfolding newWithValueMovingAverage
+  new-refused b = simp b
+
+  pub new-accepted : badLength length ≡ false → newWithValueMovingAverage length value ≡ made Refusal.None (windowOf length value)
+  unfolding newWithValueMovingAverage
+  new-accepted g = simp g
+
+module _ (s : MovingAverage) where
+  pub window-fits : badWindow s ≡ false → s .length ≤ 16
+  unfolding badWindow
+  window-fits g = length-fits (s .length) (neither (badLength (s .length)) (ltb (s .length) (s .head)) g .0)
+
+  pub store-length : (value : Float) → windowStore s value .length ≡ s .length
+  unfolding windowStore
+  store-length value = either (ltb (s .head) (s .length)) _ _ refl
+
+  pub step-refused : (value : Float) → badWindow s ≡ true → stepMovingAverage s value ≡ answered Refusal.Window F.zero s
+  unfolding stepMovingAverage
+  step-refused value b = simp b
+
+  pub step-accepted : (value : Float) → badWindow s ≡ false → stepMovingAverage s value ≡ answered Refusal.None (windowMean (windowStore s value)) (windowStore s value)
+  unfolding stepMovingAverage
+  step-accepted value g = simp g

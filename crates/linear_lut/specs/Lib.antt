@@ -1,0 +1,2 @@
+pub mod LinearLut
+pub mod LinearLutLaws

@@ -1,0 +1,15 @@
+use Rattle.refusal.specs.Cases.{first-fails, first-holds}
+use Rattle.motor_lin.specs.MotorLin.{badMotor}
+use Rattle.motor_lin.proofs.MotorLin.is_bad.Statement.{statement}
+use Rattle.motor_lin.proofs.MotorLin.is_bad.Tie as tie
+
+returns : tie.Need-returns
+unfolding badMotor
+returns c = first-holds _ _ (c .before .before .if1 .taken)
+
+returns-2 : tie.Need-returns-2
+unfolding badMotor
+returns-2 c = first-fails _ _ (c .if1 .left)
+
+pub is-bad-spec : {M : Type 1} → statement M
+is-bad-spec = tie.close (tie.spec returns returns-2)

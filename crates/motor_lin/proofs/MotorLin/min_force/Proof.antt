@@ -1,0 +1,20 @@
+use Rattle.refusal.specs.Cases.{when-true, when-false}
+use Rattle.motor_lin.specs.MotorLin.{minForce, inForce, thrust}
+use mathlib.Core.Path.{sym, _∙_}
+use borrow.Author.Needs.{needs}
+use Rattle.motor_lin.proofs.MotorLin.min_force.Statement.{statement}
+use Rattle.motor_lin.proofs.MotorLin.min_force.Tie as tie
+
+is-bad-requires : tie.Need-is-bad-requires
+is-bad-requires c κs = search needs
+
+returns : tie.Need-returns
+unfolding minForce inForce thrust
+returns c = when-true _ _ _ (sym (c .before .is-bad .ensures) ∙ c .if1 .taken)
+
+returns-2 : tie.Need-returns-2
+unfolding minForce inForce
+returns-2 c = when-false _ _ _ (sym (c .before .before .is-bad .ensures) ∙ c .before .if1 .left)
+
+pub min-force-spec : {M : Type 1} → statement M
+min-force-spec = tie.close (tie.spec is-bad-requires returns returns-2)

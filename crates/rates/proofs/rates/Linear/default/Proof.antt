@@ -1,0 +1,11 @@
+use mathlib.Core.Path.{refl}
+use Rattle.rates.specs.Rates.{linearDefault}
+use Rattle.rates.proofs.rates.Linear.default.Statement.{statement}
+use Rattle.rates.proofs.rates.Linear.default.Tie as tie
+
+returns : tie.Need-returns
+unfolding linearDefault
+returns c = refl
+
+pub default-spec : {M : Type 1} → statement M
+default-spec = tie.close (tie.spec returns)

@@ -1,0 +1,4 @@
+pub mod Line
+pub mod Linear
+pub mod Rates
+pub mod ExpoRates

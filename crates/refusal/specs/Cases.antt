@@ -1,0 +1,16 @@
+-- A definition picks between two answers by a test, `cond`: the one that it gives where the test is known.
+use mathlib.Core.Path.{_≡_}
+use mathlib.Core.Bool.{Bool, true, false, cond, not, _&&_}
+
+pub when-true : {A : Type 0} (t : Bool) (a b : A) → t ≡ true → a ≡ cond t a b
+when-true t a b h = simp h
+
+pub when-false : {A : Type 0} (t : Bool) (a b : A) → t ≡ false → b ≡ cond t a b
+when-false t a b h = simp h
+
+-- a state is bad where not all of its tests hold: the first of two that fails, and the second where the first holds
+pub first-fails : (p q : Bool) → p ≡ false → true ≡ not (p && q)
+first-fails p q h = simp h
+
+pub first-holds : (p q : Bool) → p ≡ true → not q ≡ not (p && q)
+first-holds p q h = simp h

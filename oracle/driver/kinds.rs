@@ -1,0 +1,149 @@
+//! The kinds of operands in lines on states, each known by a letter: ordinary ones, and odd ones, which are at an edge,
+//! refused, or any at all.
+//!
+//! | letter | operand |
+//! |---|---|
+//! | b | a bool |
+//! | x | a signal |
+//! | y | a signal that stays about a level for a while, is often near 1 and at times exactly 1 |
+//! | e | an error, often some steps away from the last range of kind w |
+//! | t | a time constant, 0 too |
+//! | p | a time constant above 0 |
+//! | d | a sampling time |
+//! | a | a weight from 0 to 1 |
+//! | s | a weight above 0 |
+//! | g | a gain |
+//! | l | a slew limit or a motor's factor |
+//! | c | a motor's command or thrust |
+//! | n | a window's length |
+//! | h | a window's length and its head |
+//! | r | a range: its low and its high end |
+//! | w | a range to wrap into |
+//! | m | a motor's limits: the low and the high one |
+//! | L | the lane |
+
+use crate::random::Random;
+use crate::ranges::{refused_bounds, steps};
+use crate::values::{dyadic, float, nan};
+use std::f32::consts::PI;
+
+/// What the operands of one state have to do with those before them.
+pub struct Memory {
+    lane: u32,
+    /// The last range to wrap into.
+    range: (f32, f32),
+    /// What signals stay about.
+    level: f32,
+}
+
+impl Memory {
+    pub fn new(lane: u32) -> Self {
+        Memory { lane, range: (-1.0, 1.0), level: 0.0 }
+    }
+
+    /// All but the lane, for a new episode.
+    pub fn forget(&mut self) {
+        *self = Memory::new(self.lane);
+    }
+
+    pub fn ordinary(&mut self, r: &mut Random, kind: u8, to: &mut Vec<u32>) {
+        let x = match kind {
+            b'x' => r.unit() * 2.0,
+            b't' if r.once_in(8) => 0.0,
+            b't' | b'p' => positive(r, -10, 0),
+            b'd' if r.once_in(8) => r.one_of(&[0.25, 0.5, 1.0]),
+            b'd' => positive(r, -13, -3),
+            b'a' => r.unit().abs(),
+            b's' if r.once_in(16) => 1.0,
+            b's' => positive(r, -8, 0),
+            b'g' if r.once_in(2) => r.one_of(&[0.0, 0.5, 1.0, 2.0, -1.0]),
+            b'g' => positive(r, -6, 3),
+            b'l' => positive(r, -4, 6),
+            b'c' => r.unit() * 0.75 + 0.5,
+            b'y' => self.about_level(r),
+            b'e' => self.error(r),
+            b'b' => return to.push(r.below(2) as u32),
+            b'n' => return to.push(1 + r.below(16) as u32),
+            b'h' => {
+                let length = 1 + r.below(16);
+                return to.extend([length as u32, r.below(length + 1) as u32]);
+            }
+            b'r' | b'w' => {
+                let range = r.one_of(&[(-1.0, 1.0), (0.0, 1.0), (-2.0, 0.5), (-PI, PI), (-180.0, 180.0)]);
+                return self.range(kind, range, to);
+            }
+            b'm' => return to.extend([r.unit().abs() / 4.0, 1.0 - r.unit().abs() / 4.0].map(f32::to_bits)),
+            b'L' => return to.push(self.lane),
+            _ => panic!("no kind {}", kind as char),
+        };
+        to.push(x.to_bits());
+    }
+
+    pub fn odd(&mut self, r: &mut Random, kind: u8, to: &mut Vec<u32>) {
+        match kind {
+            b'b' => self.ordinary(r, kind, to),
+            b'n' => to.push(r.one_of(&[0, 1, 16, 17, 18, 0x8000_0001, 0xffff_ffff])),
+            b'h' => {
+                let length: u32 = r.one_of(&[0, 1, 2, 15, 16, 17, 0x1_0001, 0xffff_ffff]);
+                to.extend([
+                    length,
+                    r.one_of(&[0, length.wrapping_sub(1), length, length.wrapping_add(1), 0xffff_ffff]),
+                ]);
+            }
+            b'r' | b'w' | b'm' => {
+                let range = refused_bounds(r);
+                self.range(kind, range, to);
+            }
+            b'L' => to.push(r.one_of(&[8, 9, 255, 0x0100_0000, 0xffff_ffff])),
+            _ if r.once_in(3) => to.push(nan(r)),
+            _ if r.once_in(2) => {
+                to.push(r.one_of(&[0.0, -0.0, 1.0, -1.0, 2.0, f32::INFINITY, f32::NEG_INFINITY]).to_bits())
+            }
+            b's' => to.push(beside(r, 1.0).to_bits()),
+            _ => to.push(float(r)),
+        }
+    }
+
+    fn range(&mut self, kind: u8, range: (f32, f32), to: &mut Vec<u32>) {
+        if kind == b'w' {
+            self.range = range;
+        }
+        to.extend([range.0, range.1].map(f32::to_bits));
+    }
+
+    fn about_level(&mut self, r: &mut Random) -> f32 {
+        if r.once_in(50) {
+            self.level = r.unit() * 1.5;
+        }
+        match r.below(8) {
+            0 => r.unit() * 2.0,
+            1 => beside(r, 1.0),
+            _ => self.level + r.unit() / 8.0,
+        }
+    }
+
+    /// Where the gains and the sampling time are round, so is often what comes of a round error: it meets the ends of
+    /// the ranges exactly.
+    fn error(&mut self, r: &mut Random) -> f32 {
+        let (min, max) = self.range;
+        match r.below(9) {
+            0..=2 => r.unit() * 2.0,
+            3 => f32::from_bits(dyadic(r)),
+            4 => beside(r, min),
+            5 => beside(r, max),
+            6 => min + r.unit() * 4.0 * (max - min),
+            7 => min - steps(r) * (max - min),
+            _ => max + steps(r) * (max - min),
+        }
+    }
+}
+
+/// The number itself, a neighbour of it, or its negative.
+fn beside(r: &mut Random, x: f32) -> f32 {
+    r.one_of(&[x, x.next_up(), x.next_down(), -x])
+}
+
+/// A number from 2^low to 2^high.
+fn positive(r: &mut Random, low: i32, high: i32) -> f32 {
+    (1.5 + r.unit() / 2.0) * 2f32.powi(low + r.below((high - low) as usize) as i32)
+}
