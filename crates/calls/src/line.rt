@@ -4,6 +4,7 @@ ghost use lib.ListN.{length};
 use super::numbers;
 use super::of_curves;
 use super::of_filters;
+use super::of_frames;
 use super::of_motors;
 use super::of_statistics;
 use super::of_tables;
@@ -87,6 +88,9 @@ fn tell_more(name: &[u8], ops: &[u32], states: &mut [u32], res: &mut [u32]) -> T
     }
     if told::begins(name, b"statistics.") {
         return of_statistics::tell(name, ops, states, res);
+    }
+    if told::begins(name, b"quad_") {
+        return of_frames::tell(name, ops, res);
     }
     if told::same(name, b"linear_lut") {
         return of_tables::tell(ops, res);

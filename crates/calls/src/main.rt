@@ -3,6 +3,7 @@ mod line;
 mod numbers;
 mod of_curves;
 mod of_filters;
+mod of_frames;
 mod of_motors;
 mod of_statistics;
 mod of_tables;

@@ -190,7 +190,7 @@ fn slots_at(w: &[u32], at: usize) -> [f32; 16]
     slots
 }
 
-fn put_slots(w: &mut [u32], at: usize, slots: [f32; 16])
+pub fn put_slots(w: &mut [u32], at: usize, slots: [f32; 16])
     requires { ⌜ at < 4096 ⌝ }
 {
     let mut i = 0;

@@ -1,7 +1,9 @@
 -- Document 01, 'Both sides of each edge': the rows marked [T], in its order, as one theorem on the definitions. Numbers are written by their
 -- bits. Assumes nothing.
 use mathlib.Core.Path.{_≡_, refl}
+use mathlib.Core.Bool.{false}
 use mathlib.Core.List.{List, [], _∷_}
+use lib.ListN.{take}
 use Prim.Native.Nat.{ℕ}
 use lib.Ieee as Ieee
 use lib.Ieee.{Float, nan, binary32, ofBits}
@@ -14,6 +16,8 @@ use Rattle.filters.specs.SlewRate.{newSlewRate, stepSlewRate, badLimit, slewCha
 use Rattle.filters.specs.declared.moving_average.MovingAverage.{MovingAverage}
 use Rattle.filters.specs.declared.slew_rate.SlewRate.{SlewRate}
 use Rattle.rates.specs.Rates.{actualDefault, applyActual}
+use Rattle.airframe.specs.Airframe as A
+use Rattle.airframe.specs.Airframe.{quadX}
 use Rattle.linear_lut.specs.LinearLut.{looked, among, within, holds, segment}
 use Rattle.motor_lin.specs.MotorLin.{made, commandToForce, forceToCommand, command, thrust, inForce, inCommand, badMotor, motorAt, thrustOf, commandOf}
 
@@ -44,8 +48,12 @@ pub rows
     × (forceToCommand (made (b 0x4080_0000) (b 0) (command (b 0)) (command (b 0x3f80_0000)) .motor) (thrust (b 0x3f80_0000)) ≡ record { refusal = Refusal.None; command = command (b 0x3f00_0000) })
     × (root (b 0x0000_0002) ≡ b 0x1a80_0000)
     × (root (b 0x4000_0000) ≡ b 0x3fb5_04f3)
+    × (quadX (b 0x4000_0000) (b 0x4080_0000) (b 0x3f00_0000) false .refusal ≡ Refusal.None)
+    × (take 4 (quadX (b 0x4000_0000) (b 0x4080_0000) (b 0x3f00_0000) false .matrix) ≡ b 0xbe00_0000 ∷ b 0xbe80_0000 ∷ b 0xbf00_0000 ∷ b 0xbe80_0000 ∷ [])
+    × (quadX (b 0) (b 0x4080_0000) (b 0x3f00_0000) false .refusal ≡ Refusal.RowSum)
 unfolding ofBits Ieee.toBits Ieee.add Ieee.sub Ieee.mul Ieee.div Ieee.neg Ieee.lt Ieee.le Ieee.isNan Ieee.ofInt
     absF fifthF clampF maxF minF negative wrapped rise fall actualDefault applyActual looked among within holds segment
     newMovingAverage newWithValueMovingAverage stepMovingAverage badLength badWindow windowOf windowStore windowMean newSlewRate stepSlewRate badLimit slewChange slewStep
     made commandToForce forceToCommand inForce inCommand badMotor motorAt thrustOf commandOf root rootBits seek reaches fourfold middle scaled ofParts
-rows = (refl, refl, refl, refl, refl, refl, refl, refl, refl, refl, refl, refl, refl, refl)
+    A.column A.addSquares A.sums A.sumsOf A.goodSum A.goodSums A.divided A.four A.entries A.zeros A.refusalOf A.matrixOf A.motorsOf A.flat A.table A.signsAt A.rowsFrom A.signed A.motorAt A.frame A.dirOf A.quadMotors A.mixed A.quad A.quadX A.quadP
+rows = (refl, refl, refl, refl, refl, refl, refl, refl, refl, refl, refl, refl, refl, refl, refl, refl, refl)

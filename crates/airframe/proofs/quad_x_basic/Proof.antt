@@ -1,0 +1,14 @@
+use borrow.Author.Needs.{needs}
+use Rattle.airframe.specs.Airframe.{quadX}
+use Rattle.airframe.proofs.quad_x_basic.Statement.{statement}
+use Rattle.airframe.proofs.quad_x_basic.Tie as tie
+
+quad-requires : tie.Need-quad-requires
+quad-requires c κs = search needs
+
+returns : tie.Need-returns
+unfolding quadX
+returns c = cc
+
+pub quad-x-basic-spec : {M : Type 1} → statement M
+quad-x-basic-spec = tie.close (tie.spec quad-requires returns)

@@ -1,0 +1,2 @@
+pub mod Airframe
+pub mod AirframeLaws
