@@ -20,7 +20,7 @@ pub struct Options {
 impl Options {
     /// The options of this run, or the end of it with a word on what is wrong.
     pub fn read(lines: u64) -> Self {
-        let mut options = Options { seed: 1, lines, parts: ALL.iter().collect(), calls: String::new(), listed: false };
+        let mut options = Options { seed: 1, lines, parts: ALL.iter().filter(|part| part.landed).collect(), calls: String::new(), listed: false };
         let mut words = std::env::args().skip(1);
         while let Some(word) = words.next() {
             let mut value = || words.next().unwrap_or_else(|| wrong(&format!("{word} needs a value")));

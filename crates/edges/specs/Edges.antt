@@ -41,7 +41,7 @@ pub rows
     × (applyActual actualDefault (b 0x3f80_0000) ≡ b 0x41a0_0000)
     × (applyActual actualDefault (b 0x3f00_0000) ≡ b 0x408f_c000)
     × (looked (b 0 ∷ b 0 ∷ b 0x4000_0000 ∷ b 0x4080_0000 ∷ []) (b 0x4040_0000) ≡ record { refusal = Refusal.None; y = b 0x40c0_0000 })
-    × (looked (b 0 ∷ b 0 ∷ []) (b 0x4040_0000) ≡ record { refusal = Refusal.Points; y = b 0 })
+    × ((px py x : Float) → looked (px ∷ py ∷ []) x ≡ record { refusal = Refusal.Points; y = b 0 })
     × (windowFed (newMovingAverage 2 .filter) (b 0x4000_0000 ∷ b 0x4080_0000 ∷ b 0x40c0_0000 ∷ b 0x4100_0000 ∷ []) ≡ b 0x3f80_0000 ∷ b 0x4040_0000 ∷ b 0x40a0_0000 ∷ b 0x40c0_0000 ∷ [])
     × (slewFed (newSlewRate (b 0x3f80_0000) (b 0x3f00_0000) .filter) (b 0x4000_0000 ∷ nan ∷ []) ≡ b 0x3f00_0000 ∷ b 0 ∷ [])
     × (commandToForce (made (b 0x4080_0000) (b 0) (command (b 0)) (command (b 0x3f80_0000)) .motor) (command (b 0x3f00_0000)) ≡ record { refusal = Refusal.None; force = thrust (b 0x3f80_0000) })
@@ -51,9 +51,10 @@ pub rows
     × (quadX (b 0x4000_0000) (b 0x4080_0000) (b 0x3f00_0000) false .refusal ≡ Refusal.None)
     × (take 4 (quadX (b 0x4000_0000) (b 0x4080_0000) (b 0x3f00_0000) false .matrix) ≡ b 0xbe00_0000 ∷ b 0xbe80_0000 ∷ b 0xbf00_0000 ∷ b 0xbe80_0000 ∷ [])
     × (quadX (b 0) (b 0x4080_0000) (b 0x3f00_0000) false .refusal ≡ Refusal.RowSum)
+    × (quadX (b 0x4000_0000) (b 0) (b 0x3f00_0000) false .refusal ≡ Refusal.RowSum)
 unfolding ofBits Ieee.toBits Ieee.add Ieee.sub Ieee.mul Ieee.div Ieee.neg Ieee.lt Ieee.le Ieee.isNan Ieee.ofInt
     absF fifthF clampF maxF minF negative wrapped rise fall actualDefault applyActual looked among within holds segment
     newMovingAverage newWithValueMovingAverage stepMovingAverage badLength badWindow windowOf windowStore windowMean newSlewRate stepSlewRate badLimit slewChange slewStep
     made commandToForce forceToCommand inForce inCommand badMotor motorAt thrustOf commandOf root rootBits seek reaches fourfold middle scaled ofParts
     A.column A.addSquares A.sums A.sumsOf A.goodSum A.goodSums A.divided A.four A.entries A.zeros A.refusalOf A.matrixOf A.motorsOf A.flat A.table A.signsAt A.rowsFrom A.signed A.motorAt A.frame A.dirOf A.quadMotors A.mixed A.quad A.quadX A.quadP
-rows = (refl, refl, refl, refl, refl, refl, refl, refl, refl, refl, refl, refl, refl, refl, refl, refl, refl)
+rows = (refl, refl, refl, refl, refl, refl, refl, λ px py x. refl, refl, refl, refl, refl, refl, refl, refl, refl, refl, refl)

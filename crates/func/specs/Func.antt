@@ -1,6 +1,6 @@
 -- func.rs: `linear_map`, and `wrap` with its step count and the cap of 64.
 use Prim.Native.Nat.{ℕ, zero, suc}
-use mathlib.Core.Bool.{true, false}
+use mathlib.Core.Bool.{Bool, true, false}
 use lib.Ieee.{Float, lt, le}
 use Rattle.float.specs.F32 as F
 use Rattle.float.specs.F32.{_+f_, _-f_, _*f_, _/f_}
@@ -18,15 +18,24 @@ refused why steps = record { refusal = why; value = F.zero; steps = steps }
 abbrev pub settled : Float → ℕ → Wrapped
 settled n made = record { refusal = Refusal.None; value = n; steps = made }
 
--- While n ≥ max, subtract the width: `left` more steps are allowed, `made` were made. One more is refused.
-unfoldable pub fall : ℕ → ℕ → Float → Float → Float → Wrapped
-fall zero made n max width = elim (le max n) [ true ↦ refused Refusal.Steps 64 | false ↦ settled n made ]
-fall (suc left) made n max width = elim (le max n) [ true ↦ fall left (suc made) (n -f width) max width | false ↦ settled n made ]
+-- The upper test of a range: where it is closed, max belongs to it, and only what is past max is above.
+abbrev pub above : Bool → Float → Float → Bool
+above true = lt
+above false = le
+
+-- While n is over, subtract the width: `left` more steps are allowed, `made` were made. One more is refused.
+unfoldable pub fall : (Float → Bool) → ℕ → ℕ → Float → Float → Wrapped
+fall over zero made n width = elim (over n) [ true ↦ refused Refusal.Steps 64 | false ↦ settled n made ]
+fall over (suc left) made n width = elim (over n) [ true ↦ fall over left (suc made) (n -f width) width | false ↦ settled n made ]
 
 -- While n < min, add the width; then fall.
-unfoldable pub rise : ℕ → ℕ → Float → Float → Float → Float → Wrapped
-rise zero made n min max width = elim (lt n min) [ true ↦ refused Refusal.Steps 64 | false ↦ fall zero made n max width ]
-rise (suc left) made n min max width = elim (lt n min) [ true ↦ rise left (suc made) (n +f width) min max width | false ↦ fall (suc left) made n max width ]
+unfoldable pub rise : (Float → Bool) → ℕ → ℕ → Float → Float → Float → Wrapped
+rise over zero made n min width = elim (lt n min) [ true ↦ refused Refusal.Steps 64 | false ↦ fall over zero made n width ]
+rise over (suc left) made n min width = elim (lt n min) [ true ↦ rise over left (suc made) (n +f width) min width | false ↦ fall over (suc left) made n width ]
+
+-- The rule for either upper test: `wrap` has ≥, and the angle controller >.
+abbrev pub wrapBy : (Float → Float → Bool) → Float → Float → Float → Wrapped
+wrapBy test num min max = elim (lt min max) [ true ↦ rise (test max) 64 0 num min (max -f min) | false ↦ refused Refusal.Range 0 ]
 
 unfoldable pub wrapped : Float → Float → Float → Wrapped
-wrapped num min max = elim (lt min max) [ true ↦ rise 64 0 num min max (max -f min) | false ↦ refused Refusal.Range 0 ]
+wrapped num min max = wrapBy le num min max

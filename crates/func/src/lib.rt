@@ -1,6 +1,6 @@
 // utils/func.rs: mapping a number from one range to another, and wrapping it into a range by counted steps.
 ghost use mathlib.Core.Path.{_≡_};
-ghost use Rattle.func.specs.Func.{linearMap, refused, wrapped};
+ghost use Rattle.func.specs.Func.{linearMap, refused, above, wrapBy, wrapped};
 use refusal::Refusal;
 
 // What wrapping gives: refused, the number is +0 and the steps are 0, or 64 where they ran out.
@@ -29,10 +29,17 @@ fn refused(refusal: Refusal, steps: u32) -> Wrapped
     }
 }
 
-// Wraps num into min ≤ num < max. The Rust's loops have no cap: at an infinity, or where a step changes nothing, they
-// never end.
-pub fn wrap(num: f32, min: f32, max: f32) -> Wrapped
-    ensures { λ r. ⌜ r ≡ wrapped num min max ⌝ }
+// A number above the range: past max, and at max too where the range is not closed.
+fn above(closed: bool, max: f32, n: f32) -> bool
+    ensures { λ r. ⌜ r ≡ above closed max n ⌝ }
+{
+    if closed { n > max } else { n >= max }
+}
+
+// Wraps num into min ≤ num < max, or min ≤ num ≤ max where the range is closed. The Rust's loops have no cap: at an
+// infinity, or where a step changes nothing, they never end.
+pub fn wrap_by(num: f32, min: f32, max: f32, closed: bool) -> Wrapped
+    ensures { λ r. ⌜ r ≡ wrapBy (above closed) num min max ⌝ }
 {
     if min < max {
         let width = max - min;
@@ -45,7 +52,7 @@ pub fn wrap(num: f32, min: f32, max: f32) -> Wrapped
             n = n + width;
             steps += 1;
         }
-        while n >= max {
+        while above(closed, max, n) {
             if steps == 64 {
                 return refused(Refusal::Steps, 64);
             }
@@ -60,4 +67,11 @@ pub fn wrap(num: f32, min: f32, max: f32) -> Wrapped
         };
     }
     refused(Refusal::Range, 0)
+}
+
+// The Rust's wrap: while num < min add the width, while num ≥ max subtract it.
+pub fn wrap(num: f32, min: f32, max: f32) -> Wrapped
+    ensures { λ r. ⌜ r ≡ wrapped num min max ⌝ }
+{
+    wrap_by(num, min, max, false)
 }

@@ -6,15 +6,19 @@ use crate::protocol::Calls;
 
 pub struct Part {
     pub name: &'static str,
+    /// Whether `calls` has the part too. One that it has not yet is compared only where it is named.
+    pub landed: bool,
     pub tables: fn() -> Vec<Box<dyn Calls>>,
     pub lines: fn() -> Box<Maker>,
 }
 
 macro_rules! parts {
-    ($($name:ident)*) => {
+    ($($name:ident)* ; $($coming:ident)*) => {
         $(mod $name;)*
+        $(mod $coming;)*
         pub const ALL: &[Part] = &[
-            $(Part { name: stringify!($name), tables: $name::tables, lines: $name::lines },)*
+            $(Part { name: stringify!($name), landed: true, tables: $name::tables, lines: $name::lines },)*
+            $(Part { name: stringify!($coming), landed: false, tables: $coming::tables, lines: $coming::lines },)*
         ];
     };
 }
@@ -27,4 +31,8 @@ parts! {
     motor_lin
     statistics
     airframe
+    ;
+    angle_pid
+    rate_pid
+    bank
 }

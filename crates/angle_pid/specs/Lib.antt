@@ -1,0 +1,4 @@
+pub mod Range
+pub mod LpFilter
+pub mod Pid
+pub mod PidLaws

@@ -1,0 +1,158 @@
+-- `Pid` wraps, then P, D, low pass, anti-windup, output limit.
+use mathlib.Core.Bool.{Bool, true, false, cond, _&&_}
+use Prim.Native.Nat.{ℕ}
+use lib.Dec.{eqb}
+use lib.Ieee.{Float}
+use Rattle.float.specs.F32 as F
+use Rattle.float.specs.F32.{_+f_, _-f_, _*f_, _/f_}
+use Rattle.refusal.specs.Refusal.{numberOf}
+use Rattle.refusal.specs.declared.Refusal.{Refusal}
+use Rattle.refusal.specs.declared.Refusal.the-variants as Refusal
+use Rattle.func.specs.declared.Wrapped.{Wrapped}
+use Rattle.angle_pid.specs.declared.range.Range.{Range}
+use Rattle.angle_pid.specs.declared.range.Range.the-variants as Range
+use Rattle.angle_pid.specs.declared.lp_filter.Tau.{Tau}
+use Rattle.angle_pid.specs.declared.lp_filter.Tau.the-variants as Tau
+use Rattle.angle_pid.specs.declared.lp_filter.LpFilter.{LpFilter}
+use Rattle.angle_pid.specs.declared.lp_filter.LpFilter.the-variants as LpFilter
+use Rattle.angle_pid.specs.declared.lp_filter.LpFiltered.{LpFiltered}
+use Rattle.angle_pid.specs.declared.pid.Pid.{Pid}
+use Rattle.angle_pid.specs.declared.pid.PidConfig.{PidConfig}
+use Rattle.angle_pid.specs.declared.pid.PidMade.{PidMade}
+use Rattle.angle_pid.specs.declared.pid.PidUpdated.{PidUpdated}
+use Rattle.angle_pid.specs.declared.pid.PidStepped.{PidStepped}
+use Rattle.angle_pid.specs.Range.{rangeRefusal, wrapError, shifted, admits, limited}
+use Rattle.angle_pid.specs.LpFilter.{tauRefusal, newLpFilter, storedTau, stepLpFilter}
+
+-- ---- what is refused
+
+unfoldable pub passes : Refusal → Bool
+passes why = eqb (numberOf why) 0
+
+-- the first of two refusals
+unfoldable pub first : Refusal → Refusal → Refusal
+first a b = cond (passes a) b a
+
+-- wrapping, output limit, anti-windup, tau, in that order
+unfoldable pub partsRefusal : Range → Range → Range → Tau → Refusal
+partsRefusal wrapping outputLimit antiWindup tau = first (rangeRefusal wrapping) (first (rangeRefusal outputLimit) (first (rangeRefusal antiWindup) (tauRefusal tau)))
+
+-- the first refusal of a controller's stored parts, and of a configuration's
+unfoldable pub badPid : Pid → Refusal
+badPid s = partsRefusal (s .wrapping) (s .«output_limit») (s .«anti_windup») (storedTau (s .«lp_filter»))
+
+unfoldable pub badConfig : PidConfig → Refusal
+badConfig c = partsRefusal (c .wrapping) (c .«output_limit») (c .«anti_windup») (c .«lp_filter»)
+
+-- ---- states
+
+abbrev pub pidOf : Float → Float → Float → Float → Float → Bool → Float → Range → Range → Range → LpFilter → Pid
+pidOf kp ki kd ts integral on prev wrapping outputLimit antiWindup filter = record { kp = kp; ki = ki; kd = kd; ts = ts; integral = integral; «integral_en» = on; «prev_error» = prev; wrapping = wrapping; «output_limit» = outputLimit; «anti_windup» = antiWindup; «lp_filter» = filter }
+
+-- all zero, with the switches off
+unfoldable pub zeroPid : Pid
+zeroPid = pidOf F.zero F.zero F.zero F.zero F.zero false F.zero Range.Off Range.Off Range.Off LpFilter.Off
+
+-- in the ideal form a gain is multiplied by kp
+unfoldable pub idealGain : Bool → Float → Float → Float
+idealGain ideal k kp = cond ideal (k *f kp) k
+
+unfoldable pub newPid : Float → Float → Float → Bool → Float → Pid
+newPid kp ki kd ideal ts = pidOf kp (idealGain ideal ki kp) (idealGain ideal kd kp) ts F.zero true F.zero Range.Off Range.Off Range.Off LpFilter.Off
+
+unfoldable pub withGains : Pid → Float → Float → Float → Pid
+withGains s kp ki kd = pidOf kp ki kd (s .ts) (s .integral) (s .«integral_en») (s .«prev_error») (s .wrapping) (s .«output_limit») (s .«anti_windup») (s .«lp_filter»)
+
+unfoldable pub withIntegral : Pid → Bool → Float → Pid
+withIntegral s on integral = pidOf (s .kp) (s .ki) (s .kd) (s .ts) integral on (s .«prev_error») (s .wrapping) (s .«output_limit») (s .«anti_windup») (s .«lp_filter»)
+
+unfoldable pub withParts : Pid → Range → Range → Range → LpFilter → Pid
+withParts s = pidOf (s .kp) (s .ki) (s .kd) (s .ts) (s .integral) (s .«integral_en») (s .«prev_error»)
+
+unfoldable pub configured : PidConfig → Float → Pid
+configured c ts = withParts (newPid (c .kp) (c .ki) (c .kd) (c .ideal) ts) (c .wrapping) (c .«output_limit») (c .«anti_windup») (newLpFilter (c .«lp_filter») ts)
+
+-- ---- one step, on an error that is wrapped already
+
+-- Wrapping moves prev_error and integral when error − prev_error leaves the range.
+unfoldable pub movedError : Pid → Float → Float
+movedError s error = shifted (s .wrapping) (error -f s .«prev_error») (s .«prev_error»)
+
+unfoldable pub movedIntegral : Pid → Float → Float
+movedIntegral s error = shifted (s .wrapping) (error -f s .«prev_error») (s .integral)
+
+-- P
+unfoldable pub proportional : Pid → Float → Float
+proportional s error = s .kp *f error
+
+-- D, with its low pass
+unfoldable pub derivative : Pid → Float → Float → LpFiltered
+derivative s error ts = stepLpFilter (s .«lp_filter») (s .kd *f (error -f movedError s error) /f ts)
+
+-- The integral grows only if it is on and min < P+D < max strictly.
+unfoldable pub grown : Bool → Range → Float → Float → Float → Float
+grown on antiWindup integral input pd = cond (on && admits antiWindup pd) (integral +f input) integral
+
+unfoldable pub nextIntegral : Pid → Float → Float → Float
+nextIntegral s error ts =
+    grown (s .«integral_en») (s .«anti_windup») (movedIntegral s error) (s .ki *f error *f ts) (proportional s error +f derivative s error ts .y)
+
+-- The output limit of P + I + D; the error, the integral and the low pass are remembered.
+unfoldable pub stepPid : Pid → Float → Float → PidStepped
+stepPid s error ts =
+    record {
+      y = limited (s .«output_limit») (proportional s error +f nextIntegral s error ts +f derivative s error ts .y);
+      pid = pidOf (s .kp) (s .ki) (s .kd) (s .ts) (nextIntegral s error ts) (s .«integral_en») error (s .wrapping) (s .«output_limit») (s .«anti_windup») (derivative s error ts .filter);
+    }
+
+-- ---- the calls: refused, a constructor gives the all-zero state, and any other leaves the state
+
+abbrev pub made : Refusal → Pid → PidMade
+made why s = record { refusal = why; pid = s }
+
+abbrev pub updated : Refusal → Float → ℕ → Pid → PidUpdated
+updated why y steps s = record { refusal = why; y = y; steps = steps; pid = s }
+
+unfoldable pub kept : Refusal → Pid → Pid → PidMade
+kept why s next = cond (passes why) (made Refusal.None next) (made why s)
+
+unfoldable pub withConfigPid : PidConfig → Float → PidMade
+withConfigPid c ts = kept (badConfig c) zeroPid (configured c ts)
+
+unfoldable pub setWrappingPid : Pid → Float → Float → PidMade
+setWrappingPid s min max = kept (first (badPid s) (rangeRefusal (Range.On min max))) s (withParts s (Range.On min max) (s .«output_limit») (s .«anti_windup») (s .«lp_filter»))
+
+unfoldable pub setOutputLimitPid : Pid → Float → Float → PidMade
+setOutputLimitPid s min max = kept (first (badPid s) (rangeRefusal (Range.On min max))) s (withParts s (s .wrapping) (Range.On min max) (s .«anti_windup») (s .«lp_filter»))
+
+unfoldable pub setAntiWindupPid : Pid → Float → Float → PidMade
+setAntiWindupPid s min max = kept (first (badPid s) (rangeRefusal (Range.On min max))) s (withParts s (s .wrapping) (s .«output_limit») (Range.On min max) (s .«lp_filter»))
+
+unfoldable pub setLpFilterPid : Pid → Float → PidMade
+setLpFilterPid s tau = kept (first (badPid s) (tauRefusal (Tau.On tau))) s (withParts s (s .wrapping) (s .«output_limit») (s .«anti_windup») (newLpFilter (Tau.On tau) (s .ts)))
+
+-- `set_gains` ignores `ideal`.
+unfoldable pub setGainsPid : Pid → Float → Float → Float → PidMade
+setGainsPid s kp ki kd = kept (badPid s) s (withGains s kp ki kd)
+
+unfoldable pub resetIntegralToPid : Pid → Float → PidMade
+resetIntegralToPid s integral = kept (badPid s) s (withIntegral s (s .«integral_en») integral)
+
+unfoldable pub resetIntegralPid : Pid → PidMade
+resetIntegralPid s = resetIntegralToPid s F.zero
+
+unfoldable pub enableIntegralPid : Pid → Bool → PidMade
+enableIntegralPid s on = kept (badPid s) s (withIntegral s on (s .integral))
+
+unfoldable pub enableResetIntegralPid : Pid → Bool → PidMade
+enableResetIntegralPid s on = kept (badPid s) s (withIntegral s on F.zero)
+
+-- the step after the wrapping, with the wrapping's count; refused, it answers with that count too
+unfoldable pub afterWrap : Pid → Wrapped → Float → PidUpdated
+afterWrap s w ts = cond (passes (w .refusal)) (updated Refusal.None (stepPid s (w .value) ts .y) (w .steps) (stepPid s (w .value) ts .pid)) (updated (w .refusal) F.zero (w .steps) s)
+
+unfoldable pub updateTsPid : Pid → Float → Float → PidUpdated
+updateTsPid s error ts = cond (passes (badPid s)) (afterWrap s (wrapError (s .wrapping) error) ts) (updated (badPid s) F.zero 0 s)
+
+unfoldable pub updatePid : Pid → Float → PidUpdated
+updatePid s error = updateTsPid s error (s .ts)

@@ -1,0 +1,154 @@
+-- What the controller's calls answer and leave: refused ones, the steps of an update, the integral, and NaN. Assumes nothing.
+use mathlib.Core.Path.{_≡_, refl}
+use mathlib.Core.Bool.{Bool, true, false, _&&_}
+use Prim.Native.Nat.{ℕ, _≤_, _<_}
+use lib.Ieee.{Float, nan, lt}
+use Rattle.float.specs.F32 as F
+use Rattle.float.specs.F32.{_+f_, _-f_, _*f_}
+use Rattle.float.specs.FloatLaws.{clamp-nan}
+use Rattle.refusal.specs.declared.Refusal.{Refusal}
+use Rattle.refusal.specs.declared.Refusal.the-variants as Refusal
+use Rattle.func.specs.declared.Wrapped.{Wrapped}
+use Rattle.func.specs.WrapLaws.{RisesBy, wrap-by-within, wrap-by-beyond}
+use Rattle.filters.specs.Lowpass.{lowpassOf, newLowpass, stepLowpass}
+use Rattle.angle_pid.specs.declared.range.Range.{Range}
+use Rattle.angle_pid.specs.declared.range.Range.the-variants as Range
+use Rattle.angle_pid.specs.declared.lp_filter.Tau.{Tau}
+use Rattle.angle_pid.specs.declared.lp_filter.Tau.the-variants as Tau
+use Rattle.angle_pid.specs.declared.lp_filter.LpFilter.{LpFilter}
+use Rattle.angle_pid.specs.declared.lp_filter.LpFilter.the-variants as LpFilter
+use Rattle.angle_pid.specs.declared.pid.Pid.{Pid}
+use Rattle.angle_pid.specs.declared.pid.PidConfig.{PidConfig}
+use Rattle.angle_pid.specs.declared.pid.PidMade.{PidMade}
+use Rattle.angle_pid.specs.Range.{rangeRefusal, wrapError, admits, limited}
+use Rattle.angle_pid.specs.LpFilter.{newLpFilter, storedTau, stepLpFilter}
+use Rattle.angle_pid.specs.Pid.{passes, first, partsRefusal, badPid, badConfig, zeroPid, withParts, configured, movedIntegral, proportional, derivative, grown, nextIntegral, stepPid, kept, withConfigPid, setWrappingPid, setOutputLimitPid, setAntiWindupPid, setLpFilterPid, setGainsPid, resetIntegralPid, resetIntegralToPid, enableIntegralPid, enableResetIntegralPid, updated, afterWrap, updateTsPid}
+
+-- ---- a refused call leaves the state, and a refused constructor gives the all-zero one
+
+abbrev pub Leaves : Pid → PidMade → Type 0
+Leaves s r = (r .refusal ≡ Refusal.None → ⊥) → r .pid ≡ s
+
+kept-leaves : (why : Refusal) (s next : Pid) → Leaves s (kept why s next)
+unfolding kept
+kept-leaves why s next = go (passes why) refl
+  where
+    go : (b : Bool) → passes why ≡ b → Leaves s (kept why s next)
+    go true e h = absurd (h (simp e))
+    go false e h = simp e
+
+pub config-leaves : (c : PidConfig) (ts : Float) → Leaves zeroPid (withConfigPid c ts)
+unfolding withConfigPid
+config-leaves c ts = kept-leaves _ _ _
+
+pub setters-leave : (s : Pid) (a b c : Float) (on : Bool)
+    → Leaves s (setWrappingPid s a b) × Leaves s (setOutputLimitPid s a b) × Leaves s (setAntiWindupPid s a b) × Leaves s (setLpFilterPid s a)
+    × Leaves s (setGainsPid s a b c) × Leaves s (resetIntegralPid s) × Leaves s (resetIntegralToPid s a) × Leaves s (enableIntegralPid s on) × Leaves s (enableResetIntegralPid s on)
+unfolding setWrappingPid setOutputLimitPid setAntiWindupPid setLpFilterPid setGainsPid resetIntegralPid resetIntegralToPid enableIntegralPid enableResetIntegralPid
+setters-leave s a b c on =
+    (kept-leaves _ _ _, kept-leaves _ _ _, kept-leaves _ _ _, kept-leaves _ _ _, kept-leaves _ _ _, kept-leaves _ _ _, kept-leaves _ _ _, kept-leaves _ _ _, kept-leaves _ _ _)
+
+-- ---- an update, case by case
+module _ (s : Pid) (w : Wrapped) (ts : Float) where
+  pub after-refused : passes (w .refusal) ≡ false → afterWrap s w ts ≡ updated (w .refusal) F.zero (w .steps) s
+  unfolding afterWrap
+  after-refused h = simp h
+
+  pub after-settled : passes (w .refusal) ≡ true → afterWrap s w ts ≡ updated Refusal.None (stepPid s (w .value) ts .y) (w .steps) (stepPid s (w .value) ts .pid)
+  unfolding afterWrap
+  after-settled h = simp h
+
+module _ (s : Pid) (error ts : Float) where
+  pub update-bad : passes (badPid s) ≡ false → updateTsPid s error ts ≡ updated (badPid s) F.zero 0 s
+  unfolding updateTsPid
+  update-bad h = simp h
+
+  pub update-good : passes (badPid s) ≡ true → updateTsPid s error ts ≡ afterWrap s (wrapError (s .wrapping) error) ts
+  unfolding updateTsPid
+  update-good h = simp h
+
+  -- refused, y is +0 and the state is left
+  pub update-leaves : (updateTsPid s error ts .refusal ≡ Refusal.None → ⊥) → (updateTsPid s error ts .y ≡ F.zero) × (updateTsPid s error ts .pid ≡ s)
+  update-leaves h = go (passes (badPid s)) refl (passes (wrapError (s .wrapping) error .refusal)) refl
+    where
+      go : (b : Bool) → passes (badPid s) ≡ b → (d : Bool) → passes (wrapError (s .wrapping) error .refusal) ≡ d → (updateTsPid s error ts .y ≡ F.zero) × (updateTsPid s error ts .pid ≡ s)
+      go false e d k = simp (update-bad e) (refl, refl)
+      go true e false k = simp (update-good e, after-refused s (wrapError (s .wrapping) error) ts k) (refl, refl)
+      go true e true k = absurd (h (simp (update-good e, after-settled s (wrapError (s .wrapping) error) ts k)))
+
+-- ---- the steps are those of the rule, and the step is on the error that the rule leads to
+
+-- where no part is refused, a wrapping range that is on has min < max
+range-good : (s : Pid) (min max : Float) → badPid s ≡ Refusal.None → s .wrapping ≡ Range.On min max → lt min max ≡ true
+unfolding badPid partsRefusal first passes rangeRefusal
+range-good s min max good on = go (lt min max) refl
+  where
+    go : (b : Bool) → lt min max ≡ b → b ≡ true
+    go true e = refl
+    go false e = let bad : badPid s ≡ Refusal.Range = simp (on, e) in cc
+
+module _ (s : Pid) (error ts : Float) (good : badPid s ≡ Refusal.None) where
+  pub update-unwrapped : s .wrapping ≡ Range.Off → updateTsPid s error ts ≡ updated Refusal.None (stepPid s error ts .y) 0 (stepPid s error ts .pid)
+  unfolding updateTsPid afterWrap wrapError passes
+  update-unwrapped off = simp (good, off)
+
+  module _ (min max : Float) (on : s .wrapping ≡ Range.On min max) where
+    pub update-within : (y : Float) (k : ℕ) → RisesBy (lt max) min (max -f min) error k y → k ≤ 64
+        → updateTsPid s error ts ≡ updated Refusal.None (stepPid s y ts .y) k (stepPid s y ts .pid)
+    unfolding updateTsPid afterWrap wrapError passes
+    update-within y k r h = simp (good, on, wrap-by-within lt error min max (range-good s min max good on) y k r h)
+
+    pub update-beyond : ((k : ℕ) (y : Float) → RisesBy (lt max) min (max -f min) error k y → 64 < k) → updateTsPid s error ts ≡ updated Refusal.Steps F.zero 64 s
+    unfolding updateTsPid afterWrap wrapError passes
+    update-beyond f = simp (good, on, wrap-by-beyond lt error min max (range-good s min max good on) f)
+
+-- ---- the integral
+module _ (s : Pid) (error ts : Float) where
+  abbrev pub pd : Float
+  pd = proportional s error +f derivative s error ts .y
+
+  pub integral-grows : s .«integral_en» ≡ true → admits (s .«anti_windup») pd ≡ true → stepPid s error ts .pid .integral ≡ movedIntegral s error +f s .ki *f error *f ts
+  unfolding stepPid nextIntegral grown
+  integral-grows on inside = simp (on, inside)
+
+  pub integral-off : s .«integral_en» ≡ false → stepPid s error ts .pid .integral ≡ movedIntegral s error
+  unfolding stepPid nextIntegral grown
+  integral-off off = simp off
+
+  -- it grows only if min < P+D < max strictly
+  pub integral-stands : (min max : Float) → s .«anti_windup» ≡ Range.On min max → lt min pd && lt pd max ≡ false → stepPid s error ts .pid .integral ≡ movedIntegral s error
+  unfolding stepPid nextIntegral grown admits
+  integral-stands min max range outside = go (s .«integral_en») refl
+    where
+      go : (b : Bool) → s .«integral_en» ≡ b → stepPid s error ts .pid .integral ≡ movedIntegral s error
+      go true e = simp (e, range, outside)
+      go false e = integral-off e
+
+-- ---- NaN passes the output limit
+limit-nan : (r : Range) → limited r nan ≡ nan
+unfolding limited
+limit-nan Range.Off = refl
+limit-nan (Range.On min max) = clamp-nan min max
+
+pub nan-passes : (s : Pid) (error ts : Float) → proportional s error +f nextIntegral s error ts +f derivative s error ts .y ≡ nan → stepPid s error ts .y ≡ nan
+unfolding stepPid
+nan-passes s error ts h = rw h (limit-nan (s .«output_limit»))
+
+-- ---- a controller made from a good configuration has good parts, and an update keeps them: only 6 can refuse it from then on
+new-tau : (t : Tau) (ts : Float) → storedTau (newLpFilter t ts) ≡ t
+unfolding storedTau newLpFilter newLowpass lowpassOf
+new-tau Tau.Off ts = refl
+new-tau (Tau.On tau) ts = refl
+
+pub config-parts : (c : PidConfig) (ts : Float) → badPid (configured c ts) ≡ badConfig c
+unfolding badPid badConfig configured withParts
+config-parts c ts = simp new-tau
+
+step-tau : (f : LpFilter) (x : Float) → storedTau (stepLpFilter f x .filter) ≡ storedTau f
+unfolding storedTau stepLpFilter stepLowpass
+step-tau LpFilter.Off x = refl
+step-tau (LpFilter.On f) x = refl
+
+pub step-parts : (s : Pid) (error ts : Float) → badPid (stepPid s error ts .pid) ≡ badPid s
+unfolding badPid stepPid derivative
+step-parts s error ts = simp step-tau

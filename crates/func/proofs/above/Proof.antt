@@ -1,0 +1,11 @@
+use Rattle.func.proofs.above.Statement.{statement}
+use Rattle.func.proofs.above.Tie as tie
+
+returns : tie.Need-returns
+returns c = simp (c .if1 .taken)
+
+returns-2 : tie.Need-returns-2
+returns-2 c = simp (c .if1 .left)
+
+pub above-spec : {M : Type 1} → statement M
+above-spec = tie.close (tie.spec returns returns-2)

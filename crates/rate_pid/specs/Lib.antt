@@ -1,0 +1,3 @@
+pub mod Slew
+pub mod RatePid
+pub mod RatePidLaws

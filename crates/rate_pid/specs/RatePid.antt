@@ -1,0 +1,255 @@
+-- rate_pid.rs: what the controller does, and its calls, which refuse a bad stored slew limit (3).
+use mathlib.Core.Bool.{Bool, true, cond, _&&_}
+use lib.Ieee.{Float, binary32, lt, ofBits}
+use Rattle.float.specs.F32 as F
+use Rattle.float.specs.F32.{_+f_, _-f_, _*f_, _/f_}
+use Rattle.float.specs.Float.{absF, clampF}
+use Rattle.refusal.specs.declared.Refusal.{Refusal}
+use Rattle.refusal.specs.declared.Refusal.the-variants as Refusal
+use Rattle.filters.specs.declared.lowpass.Lowpassed.{Lowpassed}
+use Rattle.filters.specs.Lowpass.{newLowpass, stepLowpass}
+use Rattle.filters.specs.Lowpass2.{newLowpass2, setDtLowpass2, stepLowpass2}
+use Rattle.filters.specs.SlewRate.{badLimit, slewOf}
+use Rattle.rate_pid.specs.declared.PidTerms.{PidTerms}
+use Rattle.rate_pid.specs.declared.RatePid.{RatePid}
+use Rattle.rate_pid.specs.declared.Integrated.{Integrated}
+use Rattle.rate_pid.specs.declared.Changed.{Changed}
+use Rattle.rate_pid.specs.declared.Updated.{Updated}
+use Rattle.rate_pid.specs.declared.Terms.{Terms}
+use Rattle.rate_pid.specs.declared.slew.Slew.{Slew}
+use Rattle.rate_pid.specs.declared.slew.Slew.the-variants as Slew
+use Rattle.rate_pid.specs.Slew.{badSlew, setDtSlew, stepSlew}
+
+abbrev pub ten : Float
+ten = ofBits binary32 0x4120_0000
+
+unfoldable pub zeroTerms : PidTerms
+zeroTerms = record { «p_out» = F.zero; «i_out» = F.zero; «dr_out» = F.zero; «dm_out» = F.zero }
+
+-- ---- the parts of an update, whatever the limit: s is the state before it, r the reference, m the measurement, p the prediction
+
+-- the reference as the limiter lets it through
+unfoldable pub slewedOf : RatePid → Float → Float
+slewedOf s r = stepSlew (s .«d_slew») r .y
+
+unfoldable pub filteredOf : RatePid → Float → Float
+filteredOf s m = stepLowpass2 (s .«d_lowpass») m .y
+
+-- d_gain = kd/dt
+unfoldable pub gainOf : RatePid → Float
+gainOf s = s .kd /f s .dt
+
+-- the derivative of the slewed reference
+unfoldable pub refRateOf : RatePid → Float → Float
+refRateOf s r = gainOf s *f (slewedOf s r -f s .«prev_ref»)
+
+-- the derivative of the filtered measurement, turned round as that of reference minus measurement is
+unfoldable pub measRateOf : RatePid → Float → Float
+measRateOf s m = gainOf s *f (s .«prev_meas» -f filteredOf s m)
+
+-- the integral is on, and |filtered measurement| < 1 and |slewed reference| < 1
+unfoldable pub calm : Bool → Float → Float → Bool
+calm on filtered slewed = on && (lt (absF filtered) F.one && lt (absF slewed) F.one)
+
+unfoldable pub calmOf : RatePid → Float → Float → Bool
+calmOf s r m = calm (s .«integral_en») (filteredOf s m) (slewedOf s r)
+
+-- the damping filter, fed the size of the measurement's derivative
+unfoldable pub dampedOf : RatePid → Float → Lowpassed
+dampedOf s rate = stepLowpass (s .lowpass) (absF rate)
+
+-- what the integral's growth is divided by
+unfoldable pub dampingOf : RatePid → Float → Float
+dampingOf s rate = F.one +f dampedOf s rate .y
+
+-- clamp(integral + ki·error·dt/damping, −1, 1)
+unfoldable pub grownOf : RatePid → Float → Float → Float
+grownOf s rate error = clampF (s .integral +f s .ki *f error *f s .dt /f dampingOf s rate) F.minusOne F.one
+
+-- the integral grows and the damping filter is fed, or both stay
+unfoldable pub integrated : RatePid → Bool → Float → Float → Integrated
+integrated s moves rate error =
+    cond moves
+    (record { integral = grownOf s rate error; lowpass = dampedOf s rate .filter })
+    (record { integral = s .integral; lowpass = s .lowpass })
+
+unfoldable pub integratedOf : RatePid → Float → Float → Float → Integrated
+integratedOf s r m p = integrated s (calmOf s r m) (measRateOf s m) (p -f m)
+
+-- P goes by the raw reference
+unfoldable pub termsOf : RatePid → Float → Float → Float → PidTerms
+termsOf s r m p = record {
+  «p_out» = s .kp *f (r -f m);
+  «i_out» = integratedOf s r m p .integral;
+  «dr_out» = refRateOf s r;
+  «dm_out» = measRateOf s m;
+}
+
+-- ---- an update, whatever the limit: the state after it, of whose terms the output is the sum
+
+unfoldable pub stepRate : RatePid → Float → Float → Float → RatePid
+stepRate s r m p = record {
+  kp = s .kp;
+  ki = s .ki;
+  kd = s .kd;
+  integral = integratedOf s r m p .integral;
+  «prev_meas» = filteredOf s m;
+  «prev_ref» = slewedOf s r;
+  terms = termsOf s r m p;
+  dt = s .dt;
+  «integral_en» = s .«integral_en»;
+  lowpass = integratedOf s r m p .lowpass;
+  «d_lowpass» = stepLowpass2 (s .«d_lowpass») m .filter;
+  «d_slew» = stepSlew (s .«d_slew») r .slew;
+}
+
+unfoldable pub totalOf : PidTerms → Float
+totalOf t = t .«p_out» +f t .«i_out» +f t .«dr_out» +f t .«dm_out»
+
+-- ---- what the other calls do, whatever the limit
+
+unfoldable pub newRate : Float → Float → Float → Float → Float → RatePid
+newRate kp ki kd tau dt = record {
+  kp = kp;
+  ki = ki;
+  kd = kd *f kp;
+  integral = F.zero;
+  «prev_meas» = F.zero;
+  «prev_ref» = F.zero;
+  terms = zeroTerms;
+  dt = dt;
+  «integral_en» = true;
+  lowpass = newLowpass (tau *f ten) dt;
+  «d_lowpass» = newLowpass2 tau dt;
+  «d_slew» = Slew.Off;
+}
+
+unfoldable pub withSlew : RatePid → Slew → RatePid
+withSlew s d = record {
+  kp = s .kp;
+  ki = s .ki;
+  kd = s .kd;
+  integral = s .integral;
+  «prev_meas» = s .«prev_meas»;
+  «prev_ref» = s .«prev_ref»;
+  terms = s .terms;
+  dt = s .dt;
+  «integral_en» = s .«integral_en»;
+  lowpass = s .lowpass;
+  «d_lowpass» = s .«d_lowpass»;
+  «d_slew» = d;
+}
+
+-- a limiter that starts at +0, with the controller's sample time
+unfoldable pub limitRate : RatePid → Float → RatePid
+limitRate s limit = withSlew s (Slew.On (slewOf limit F.zero (s .dt)))
+
+-- the damping filter keeps its sample time
+unfoldable pub tsRate : RatePid → Float → RatePid
+tsRate s ts = record {
+  kp = s .kp;
+  ki = s .ki;
+  kd = s .kd;
+  integral = s .integral;
+  «prev_meas» = s .«prev_meas»;
+  «prev_ref» = s .«prev_ref»;
+  terms = s .terms;
+  dt = ts;
+  «integral_en» = s .«integral_en»;
+  lowpass = s .lowpass;
+  «d_lowpass» = setDtLowpass2 (s .«d_lowpass») ts;
+  «d_slew» = setDtSlew (s .«d_slew») ts;
+}
+
+-- kd is stored as kd·kp
+unfoldable pub gainsRate : RatePid → Float → Float → Float → RatePid
+gainsRate s kp ki kd = record {
+  kp = kp;
+  ki = ki;
+  kd = kd *f kp;
+  integral = s .integral;
+  «prev_meas» = s .«prev_meas»;
+  «prev_ref» = s .«prev_ref»;
+  terms = s .terms;
+  dt = s .dt;
+  «integral_en» = s .«integral_en»;
+  lowpass = s .lowpass;
+  «d_lowpass» = s .«d_lowpass»;
+  «d_slew» = s .«d_slew»;
+}
+
+unfoldable pub enableRate : RatePid → Bool → RatePid
+enableRate s on = record {
+  kp = s .kp;
+  ki = s .ki;
+  kd = s .kd;
+  integral = s .integral;
+  «prev_meas» = s .«prev_meas»;
+  «prev_ref» = s .«prev_ref»;
+  terms = s .terms;
+  dt = s .dt;
+  «integral_en» = on;
+  lowpass = s .lowpass;
+  «d_lowpass» = s .«d_lowpass»;
+  «d_slew» = s .«d_slew»;
+}
+
+unfoldable pub resetRate : RatePid → RatePid
+resetRate s = record {
+  kp = s .kp;
+  ki = s .ki;
+  kd = s .kd;
+  integral = F.zero;
+  «prev_meas» = s .«prev_meas»;
+  «prev_ref» = s .«prev_ref»;
+  terms = s .terms;
+  dt = s .dt;
+  «integral_en» = s .«integral_en»;
+  lowpass = s .lowpass;
+  «d_lowpass» = s .«d_lowpass»;
+  «d_slew» = s .«d_slew»;
+}
+
+-- ---- its calls: refused, each leaves the state, and its numbers are +0
+
+unfoldable pub badRate : RatePid → Bool
+badRate s = badSlew (s .«d_slew»)
+
+abbrev pub changed : Refusal → RatePid → Changed
+changed why s = record { refusal = why; pid = s }
+
+abbrev pub updated : Refusal → Float → RatePid → Updated
+updated why y s = record { answer = record { refusal = why; y = y }; pid = s }
+
+abbrev pub told : Refusal → PidTerms → Terms
+told why t = record { refusal = why; terms = t }
+
+-- the stored limit is tested before anything that the call itself refuses
+unfoldable pub guarded : RatePid → Changed → Changed
+guarded s next = cond (badRate s) (changed Refusal.Slew s) next
+
+unfoldable pub callSlew : RatePid → Float → Changed
+callSlew s limit = guarded s (cond (badLimit limit) (changed Refusal.Slew s) (changed Refusal.None (limitRate s limit)))
+
+unfoldable pub callSetTs : RatePid → Float → Changed
+callSetTs s ts = guarded s (changed Refusal.None (tsRate s ts))
+
+unfoldable pub callSetGains : RatePid → Float → Float → Float → Changed
+callSetGains s kp ki kd = guarded s (changed Refusal.None (gainsRate s kp ki kd))
+
+unfoldable pub callEnableIntegral : RatePid → Bool → Changed
+callEnableIntegral s on = guarded s (changed Refusal.None (enableRate s on))
+
+unfoldable pub callResetIntegral : RatePid → Changed
+callResetIntegral s = guarded s (changed Refusal.None (resetRate s))
+
+unfoldable pub callEnableResetIntegral : RatePid → Bool → Changed
+callEnableResetIntegral s on = guarded s (changed Refusal.None (resetRate (enableRate s on)))
+
+unfoldable pub callUpdate : RatePid → Float → Float → Float → Updated
+callUpdate s r m p =
+    let next = stepRate s r m p in
+    cond (badRate s) (updated Refusal.Slew F.zero s) (updated Refusal.None (totalOf (next .terms)) next)
+
+unfoldable pub callGetTerms : RatePid → Terms
+callGetTerms s = cond (badRate s) (told Refusal.Slew zeroTerms) (told Refusal.None (s .terms))

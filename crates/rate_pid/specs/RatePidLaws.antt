@@ -1,0 +1,252 @@
+-- Laws of the rate controller, for every state and every input: what its calls leave when refused, when the integral moves
+-- and when it stands still, its bound, and that the terms are what the output adds up. Assumes nothing.
+use mathlib.Core.Path.{_≡_, refl, sym, _∙_}
+use mathlib.Core.Bool.{Bool, true, false, cond, _&&_, true≢false}
+use mathlib.Core.Logic.{_⊎_, inl, inr}
+use Prim.Native.Nat.{ℕ, _+_, _<_}
+use native.Mathlib.Omega.{arith}
+use native.Mathlib.Nat.{mul-pos}
+use borrow.Author.Tests.{lt-ltb}
+use lib.Dec.{ltb}
+use lib.Ieee.{Float, nan, inf, fin, below, lt, le, eq, neg, isNan, ofBits}
+use lib.Ieee.Fits.{down-pos}
+use Rattle.float.specs.F32 as F
+use Rattle.float.specs.F32.{_+f_, _-f_}
+use Rattle.float.specs.Float.{absF}
+use Rattle.float.specs.FloatLaws.{Within, clamp-within, lt-nan}
+use Rattle.refusal.specs.declared.Refusal.the-variants as Refusal
+use Rattle.filters.specs.SlewRate.{badLimit}
+use Rattle.rate_pid.specs.declared.RatePid.{RatePid}
+use Rattle.rate_pid.specs.declared.Changed.{Changed}
+use Rattle.rate_pid.specs.RatePid.{zeroTerms, slewedOf, filteredOf, measRateOf, calm, calmOf, dampedOf, grownOf, integrated, integratedOf, stepRate, totalOf, newRate, withSlew, limitRate, tsRate, gainsRate, enableRate, resetRate, badRate, changed, updated, told, guarded, callSlew, callSetTs, callSetGains, callEnableIntegral, callResetIntegral, callEnableResetIntegral, callUpdate, callGetTerms}
+
+-- ---- refused, a call leaves the state, and its numbers are +0
+
+module _ (s : RatePid) (bad : badRate s ≡ true) where
+  pub guard-refused : (next : Changed) → guarded s next ≡ changed Refusal.Slew s
+  unfolding guarded
+  guard-refused next = simp bad
+
+  pub slew-refused : (limit : Float) → callSlew s limit ≡ changed Refusal.Slew s
+  unfolding callSlew
+  slew-refused limit = guard-refused _
+
+  pub set-ts-refused : (ts : Float) → callSetTs s ts ≡ changed Refusal.Slew s
+  unfolding callSetTs
+  set-ts-refused ts = guard-refused _
+
+  pub set-gains-refused : (kp ki kd : Float) → callSetGains s kp ki kd ≡ changed Refusal.Slew s
+  unfolding callSetGains
+  set-gains-refused kp ki kd = guard-refused _
+
+  pub enable-integral-refused : (on : Bool) → callEnableIntegral s on ≡ changed Refusal.Slew s
+  unfolding callEnableIntegral
+  enable-integral-refused on = guard-refused _
+
+  pub reset-integral-refused : callResetIntegral s ≡ changed Refusal.Slew s
+  unfolding callResetIntegral
+  reset-integral-refused = guard-refused _
+
+  pub enable-reset-integral-refused : (on : Bool) → callEnableResetIntegral s on ≡ changed Refusal.Slew s
+  unfolding callEnableResetIntegral
+  enable-reset-integral-refused on = guard-refused _
+
+  pub update-refused : (r m p : Float) → callUpdate s r m p ≡ updated Refusal.Slew F.zero s
+  unfolding callUpdate
+  update-refused r m p = simp bad
+
+  pub get-terms-refused : callGetTerms s ≡ told Refusal.Slew zeroTerms
+  unfolding callGetTerms
+  get-terms-refused = simp bad
+
+-- ---- a state that is not bad: only a bad limit given to `slew` is refused
+
+module _ (s : RatePid) (good : badRate s ≡ false) where
+  pub guard-passed : (next : Changed) → guarded s next ≡ next
+  unfolding guarded
+  guard-passed next = simp good
+
+  pub slew-limit-refused : (limit : Float) → badLimit limit ≡ true → callSlew s limit ≡ changed Refusal.Slew s
+  unfolding callSlew
+  slew-limit-refused limit b = simp (guard-passed, b)
+
+  pub slew-accepted : (limit : Float) → badLimit limit ≡ false → callSlew s limit ≡ changed Refusal.None (limitRate s limit)
+  unfolding callSlew
+  slew-accepted limit g = simp (guard-passed, g)
+
+  pub update-accepted : (r m p : Float) → callUpdate s r m p ≡ updated Refusal.None (totalOf (stepRate s r m p .terms)) (stepRate s r m p)
+  unfolding callUpdate
+  update-accepted r m p = simp good
+
+  pub get-terms-accepted : callGetTerms s ≡ told Refusal.None (s .terms)
+  unfolding callGetTerms
+  get-terms-accepted = simp good
+
+-- what holds of the state before, and of the one that the call makes, holds of the one that it leaves
+guarded-keeps : (P : RatePid → Type 0) (s : RatePid) (next : Changed) → P s → P (next .pid) → P (guarded s next .pid)
+unfolding guarded
+guarded-keeps P s next before after = go (badRate s)
+  where
+    go : (t : Bool) → P (cond t (changed Refusal.Slew s) next .pid)
+    go true = before
+    go false = after
+
+update-keeps : (P : RatePid → Type 0) (s : RatePid) (r m p : Float) → P s → P (stepRate s r m p) → P (callUpdate s r m p .pid)
+unfolding callUpdate
+update-keeps P s r m p before after = go (badRate s)
+  where
+    go : (t : Bool) → P (cond t (updated Refusal.Slew F.zero s) (updated Refusal.None (totalOf (stepRate s r m p .terms)) (stepRate s r m p)) .pid)
+    go true = before
+    go false = after
+
+-- ---- strictly between −1 and 1, as NaN is not
+
+abbrev pub Between : Float → Type 0
+Between x = (lt F.minusOne x ≡ true) × (lt x F.one ≡ true)
+
+and-true : (p : Bool) → p ≡ p && true
+and-true true = refl
+and-true false = refl
+
+-- of sizes, one above 0
+sizes-between : (s : Bool) (a b : ℕ) → 0 < b → below false a false b ≡ below true b s a && below s a false b
+sizes-between false a b h = simp (lt-ltb 0 (b + a) (omega arith))
+sizes-between true a b h = simp (lt-ltb 0 (a + b) (omega arith)) (and-true (ltb a b))
+
+pub abs-below-one : (x : Float) → lt (absF x) F.one ≡ lt F.minusOne x && lt x F.one
+unfolding lt absF ofBits neg
+abs-below-one nan = refl
+abs-below-one (inf true) = refl
+abs-below-one (inf false) = refl
+abs-below-one (fin s m e) = sizes-between s _ _ (mul-pos (omega arith) (down-pos e))
+
+both : (p q : Bool) → p && q ≡ true → (p ≡ true) × (q ≡ true)
+both true q h = (refl, h)
+both false q h = absurd (true≢false (sym h))
+
+between : (x : Float) → lt (absF x) F.one ≡ true → Between x
+between x h = both (lt F.minusOne x) (lt x F.one) (sym (abs-below-one x) ∙ h)
+
+-- ---- the integral moves exactly when it is on and both numbers are strictly between −1 and 1
+
+module _ (s : RatePid) (r m : Float) where
+  pub calm-means : calmOf s r m ≡ true → (s .«integral_en» ≡ true) × Between (filteredOf s m) × Between (slewedOf s r)
+  unfolding calmOf calm
+  calm-means h =
+      let outer = both (s .«integral_en») _ h in
+      let inner = both (lt (absF (filteredOf s m)) F.one) _ (outer .1) in
+      (outer .0, between _ (inner .0), between _ (inner .1))
+
+  pub calm-when : s .«integral_en» ≡ true → Between (filteredOf s m) → Between (slewedOf s r) → calmOf s r m ≡ true
+  unfolding calmOf calm
+  calm-when on f g = simp (on, abs-below-one, f .0, f .1, g .0, g .1)
+
+  pub moves : (p : Float) → calmOf s r m ≡ true
+      → (stepRate s r m p .integral ≡ grownOf s (measRateOf s m) (p -f m)) × (stepRate s r m p .lowpass ≡ dampedOf s (measRateOf s m) .filter)
+  unfolding stepRate integratedOf integrated
+  moves p h = (simp h, simp h)
+
+-- ---- else it stands still, and so does the damping filter
+
+-- NaN, or not strictly between −1 and 1
+abbrev pub Outside : Float → Type 0
+Outside x = (isNan x ≡ true) ⊎ (lt F.minusOne x && lt x F.one ≡ false)
+
+outside : (x : Float) → Outside x → lt (absF x) F.one ≡ false
+outside x (inl n) = abs-below-one x ∙ simp (lt-nan F.minusOne x n)
+outside x (inr o) = abs-below-one x ∙ o
+
+abbrev pub Frozen : RatePid → Float → Float → Type 0
+Frozen s r m = (s .«integral_en» ≡ false) ⊎ (Outside (filteredOf s m) ⊎ Outside (slewedOf s r))
+
+-- the integral and the damping filter are those of s
+abbrev pub Stood : RatePid → RatePid → Type 0
+Stood s t = (t .integral ≡ s .integral) × (t .lowpass ≡ s .lowpass)
+
+and-false : (p : Bool) → p && false ≡ false
+and-false true = refl
+and-false false = refl
+
+pub not-calm : (s : RatePid) (r m : Float) → Frozen s r m → calmOf s r m ≡ false
+unfolding calmOf calm
+not-calm s r m (inl off) = simp off
+not-calm s r m (inr (inl o)) = simp (outside (filteredOf s m) o, and-false)
+not-calm s r m (inr (inr o)) = simp (outside (slewedOf s r) o, and-false)
+
+pub step-frozen : (s : RatePid) (r m p : Float) → Frozen s r m → Stood s (stepRate s r m p)
+unfolding stepRate integratedOf integrated
+step-frozen s r m p h = let off = not-calm s r m h in (simp off, simp off)
+
+pub update-frozen : (s : RatePid) (r m p : Float) → Frozen s r m → Stood s (callUpdate s r m p .pid)
+update-frozen s r m p h = update-keeps (Stood s) s r m p (refl, refl) (step-frozen s r m p h)
+
+-- ---- the integral is NaN or from −1 to 1 after `new`, and every call keeps it so
+
+abbrev pub Bounded : RatePid → Type 0
+Bounded s = Within F.minusOne F.one (s .integral)
+
+zero-within : Within F.minusOne F.one F.zero
+unfolding le lt eq neg ofBits
+zero-within = inr (refl, refl)
+
+pub new-bounded : (kp ki kd tau dt : Float) → Bounded (newRate kp ki kd tau dt)
+unfolding newRate
+new-bounded kp ki kd tau dt = zero-within
+
+grown-within : (s : RatePid) (rate error : Float) → Within F.minusOne F.one (grownOf s rate error)
+unfolding grownOf le lt eq neg ofBits
+grown-within s rate error = clamp-within _ F.minusOne F.one refl
+
+pub step-bounded : (s : RatePid) (r m p : Float) → Bounded s → Bounded (stepRate s r m p)
+unfolding stepRate integratedOf integrated
+step-bounded s r m p b = go (calmOf s r m)
+  where
+    go : (t : Bool) → Within F.minusOne F.one (integrated s t (measRateOf s m) (p -f m) .integral)
+    go true = grown-within s _ _
+    go false = b
+
+pub update-bounded : (s : RatePid) (r m p : Float) → Bounded s → Bounded (callUpdate s r m p .pid)
+update-bounded s r m p b = update-keeps Bounded s r m p b (step-bounded s r m p b)
+
+-- whatever it was before
+pub reset-bounded : (s : RatePid) → Bounded (resetRate s)
+unfolding resetRate
+reset-bounded s = zero-within
+
+module _ (s : RatePid) (b : Bounded s) where
+  pub slew-bounded : (limit : Float) → Bounded (callSlew s limit .pid)
+  unfolding callSlew limitRate withSlew
+  slew-bounded limit = guarded-keeps Bounded s _ b (go (badLimit limit))
+    where
+      go : (t : Bool) → Bounded (cond t (changed Refusal.Slew s) (changed Refusal.None (limitRate s limit)) .pid)
+      go true = b
+      go false = b
+
+  pub set-ts-bounded : (ts : Float) → Bounded (callSetTs s ts .pid)
+  unfolding callSetTs tsRate
+  set-ts-bounded ts = guarded-keeps Bounded s _ b b
+
+  pub set-gains-bounded : (kp ki kd : Float) → Bounded (callSetGains s kp ki kd .pid)
+  unfolding callSetGains gainsRate
+  set-gains-bounded kp ki kd = guarded-keeps Bounded s _ b b
+
+  pub enable-integral-bounded : (on : Bool) → Bounded (callEnableIntegral s on .pid)
+  unfolding callEnableIntegral enableRate
+  enable-integral-bounded on = guarded-keeps Bounded s _ b b
+
+  pub reset-integral-bounded : Bounded (callResetIntegral s .pid)
+  unfolding callResetIntegral
+  reset-integral-bounded = guarded-keeps Bounded s _ b (reset-bounded s)
+
+  pub enable-reset-integral-bounded : (on : Bool) → Bounded (callEnableResetIntegral s on .pid)
+  unfolding callEnableResetIntegral
+  enable-reset-integral-bounded on = guarded-keeps Bounded s _ b (reset-bounded _)
+
+-- ---- the terms are the numbers that the output adds up
+
+pub terms-add-up : (s : RatePid) (r m p : Float) → badRate s ≡ false
+    → let after = callUpdate s r m p in
+    let t = after .pid .terms in
+    after .answer .y ≡ t .«p_out» +f t .«i_out» +f t .«dr_out» +f t .«dm_out»
+unfolding totalOf
+terms-add-up s r m p good = simp (update-accepted s good r m p)

@@ -1,0 +1,348 @@
+// rate_pid.rs: the rate controller of the innermost loop. A state is given by value and handed back; `update_in_place`
+// changes one where it lies. Every call, on a state built by hand too, refuses a stored slew limit that has a negative
+// sign or is NaN, and leaves the state as it was.
+ghost use mathlib.Core.Path.{_≡_};
+ghost use mathlib.Core.Bool.{false};
+ghost use Rattle.rate_pid.specs.RatePid.{zeroTerms, totalOf, calm, integrated, badRate, withSlew, newRate, stepRate, callSlew, callSetTs, callSetGains, callEnableIntegral, callResetIntegral, callEnableResetIntegral, callUpdate, callGetTerms};
+
+mod slew;
+
+use filters::Lowpass;
+use filters::NthOrderLowpass;
+use filters::SlewRate;
+use refusal::Refusal;
+pub use slew::Slew;
+
+// The numbers that the last update added up.
+pub struct PidTerms {
+    pub p_out: f32,
+    pub i_out: f32,
+    pub dr_out: f32,
+    pub dm_out: f32,
+}
+
+// The Rust's max_integral is always 1, and is no field here.
+pub struct RatePid {
+    pub kp: f32,
+    pub ki: f32,
+    pub kd: f32,
+    pub integral: f32,
+    pub prev_meas: f32,
+    pub prev_ref: f32,
+    pub terms: PidTerms,
+    pub dt: f32,
+    pub integral_en: bool,
+    pub lowpass: Lowpass,
+    pub d_lowpass: NthOrderLowpass,
+    pub d_slew: Slew,
+}
+
+// What `slew` and the setters give: refused, the state is as it was.
+pub struct Changed {
+    pub refusal: Refusal,
+    pub pid: RatePid,
+}
+
+// What an update answers: refused, y is +0.
+pub struct Answer {
+    pub refusal: Refusal,
+    pub y: f32,
+}
+
+// The answer apart from the state, since the update in place gives the answer alone.
+pub struct Updated {
+    pub answer: Answer,
+    pub pid: RatePid,
+}
+
+// Refused, the four numbers are +0.
+pub struct Terms {
+    pub refusal: Refusal,
+    pub terms: PidTerms,
+}
+
+// What an update makes of the integral and of the damping filter.
+struct Integrated {
+    integral: f32,
+    lowpass: Lowpass,
+}
+
+// The integral may move. NaN is never calm.
+fn calm(on: bool, filtered: f32, slewed: f32) -> bool
+    ensures { λ r. ⌜ r ≡ calm on filtered slewed ⌝ }
+{
+    if on {
+        if float::abs(filtered) < 1.0 {
+            return float::abs(slewed) < 1.0;
+        }
+    }
+    false
+}
+
+impl PidTerms {
+    pub fn default() -> Self
+        ensures { λ r. ⌜ r ≡ zeroTerms ⌝ }
+    {
+        PidTerms {
+            p_out: 0.0,
+            i_out: 0.0,
+            dr_out: 0.0,
+            dm_out: 0.0,
+        }
+    }
+
+    fn total(self) -> f32
+        ensures { λ r. ⌜ r ≡ totalOf self ⌝ }
+    {
+        self.p_out + self.i_out + self.dr_out + self.dm_out
+    }
+}
+
+impl RatePid {
+    // The one check of a state: its stored slew limit is bad.
+    pub fn bad(self) -> bool
+        ensures { λ r. ⌜ r ≡ badRate self ⌝ }
+    {
+        let d_slew = self.d_slew;
+        d_slew.bad()
+    }
+
+    fn with_slew(self, d_slew: Slew) -> Self
+        ensures { λ r. ⌜ r ≡ withSlew self «d_slew» ⌝ }
+    {
+        let terms = self.terms;
+        let lowpass = self.lowpass;
+        let d_lowpass = self.d_lowpass;
+        RatePid {
+            kp: self.kp,
+            ki: self.ki,
+            kd: self.kd,
+            integral: self.integral,
+            prev_meas: self.prev_meas,
+            prev_ref: self.prev_ref,
+            terms,
+            dt: self.dt,
+            integral_en: self.integral_en,
+            lowpass,
+            d_lowpass,
+            d_slew,
+        }
+    }
+
+    // What the damping filter gives is worked out in any case, and the fed filter is kept only while the integral moves.
+    fn integrate(self, moves: bool, rate: f32, error: f32) -> Integrated
+        ensures { λ r. ⌜ r ≡ integrated self moves rate error ⌝ }
+    {
+        let old = self.lowpass;
+        let damped = old.update(float::abs(rate));
+        let fed = damped.filter;
+        if moves {
+            let damping = 1.0 + damped.y;
+            let sum = self.integral + self.ki * error * self.dt / damping;
+            let integral = float::clamp(sum, -1.0, 1.0);
+            return Integrated {
+                integral,
+                lowpass: fed,
+            };
+        }
+        let integral = self.integral;
+        Integrated {
+            integral,
+            lowpass: old,
+        }
+    }
+
+    // An update of a state that is not bad. P goes by the raw reference, the derivative and the calm
+    // test by the slewed one.
+    fn step(mut self, reference: f32, measurement: f32, prediction: f32) -> Self
+        requires { ⌜ badRate self ≡ false ⌝ }
+        ensures { λ r. ⌜ r ≡ stepRate self reference measurement prediction ⌝ }
+    {
+        let slew = self.d_slew;
+        let limited = slew.update(reference);
+        let slewed = limited.y;
+        let filter = self.d_lowpass;
+        let passed = filter.update(measurement);
+        let measurement_lp = passed.y;
+        let d_gain = self.kd / self.dt;
+        let ref_derivative = d_gain * (slewed - self.prev_ref);
+        let meas_derivative = d_gain * (self.prev_meas - measurement_lp);
+        let moves = calm(self.integral_en, measurement_lp, slewed);
+        let next = self.integrate(moves, meas_derivative, prediction - measurement);
+        let integral = next.integral;
+        let lowpass = next.lowpass;
+        let d_lowpass = passed.filter;
+        let d_slew = limited.slew;
+        let terms = PidTerms {
+            p_out: self.kp * (reference - measurement),
+            i_out: integral,
+            dr_out: ref_derivative,
+            dm_out: meas_derivative,
+        };
+        self.integral = integral;
+        self.prev_meas = measurement_lp;
+        self.prev_ref = slewed;
+        self.terms = terms;
+        self.lowpass = lowpass;
+        self.d_lowpass = d_lowpass;
+        self.with_slew(d_slew)
+    }
+
+    // Nothing given here is refused. The integral is on.
+    pub fn new(kp: f32, ki: f32, kd: f32, tau: f32, dt: f32) -> Self
+        ensures { λ r. ⌜ r ≡ newRate kp ki kd tau dt ⌝ }
+    {
+        let terms = PidTerms::default();
+        let lowpass = Lowpass::new(tau * 10.0, dt);
+        let d_lowpass = NthOrderLowpass::new(tau, dt);
+        let d_slew = Slew::Off;
+        RatePid {
+            kp,
+            ki,
+            kd: kd * kp,
+            integral: 0.0,
+            prev_meas: 0.0,
+            prev_ref: 0.0,
+            terms,
+            dt,
+            integral_en: true,
+            lowpass,
+            d_lowpass,
+            d_slew,
+        }
+    }
+
+    // The state's own limit is tested before the one given.
+    pub fn slew(self, limit: f32) -> Changed
+        ensures { λ r. ⌜ r ≡ callSlew self limit ⌝ }
+    {
+        if self.bad() {
+            let refusal = Refusal::Slew;
+            return Changed { refusal, pid: self };
+        }
+        if filters::bad_limit(limit) {
+            let refusal = Refusal::Slew;
+            return Changed { refusal, pid: self };
+        }
+        let made = SlewRate::new(limit, self.dt);
+        let filter = made.filter;
+        let d_slew = Slew::On(filter);
+        let refusal = Refusal::None;
+        let pid = self.with_slew(d_slew);
+        Changed { refusal, pid }
+    }
+
+    // The damping filter keeps its sample time.
+    pub fn set_ts(mut self, ts: f32) -> Changed
+        ensures { λ r. ⌜ r ≡ callSetTs self ts ⌝ }
+    {
+        if self.bad() {
+            let refusal = Refusal::Slew;
+            return Changed { refusal, pid: self };
+        }
+        let filter = self.d_lowpass;
+        let d_lowpass = filter.set_dt(ts);
+        let slew = self.d_slew;
+        let d_slew = slew.set_dt(ts);
+        self.dt = ts;
+        self.d_lowpass = d_lowpass;
+        let refusal = Refusal::None;
+        let pid = self.with_slew(d_slew);
+        Changed { refusal, pid }
+    }
+
+    pub fn set_gains(mut self, kp: f32, ki: f32, kd: f32) -> Changed
+        ensures { λ r. ⌜ r ≡ callSetGains self kp ki kd ⌝ }
+    {
+        if self.bad() {
+            let refusal = Refusal::Slew;
+            return Changed { refusal, pid: self };
+        }
+        self.kp = kp;
+        self.ki = ki;
+        self.kd = kd * kp;
+        let refusal = Refusal::None;
+        Changed { refusal, pid: self }
+    }
+
+    pub fn enable_integral(mut self, enable: bool) -> Changed
+        ensures { λ r. ⌜ r ≡ callEnableIntegral self enable ⌝ }
+    {
+        if self.bad() {
+            let refusal = Refusal::Slew;
+            return Changed { refusal, pid: self };
+        }
+        self.integral_en = enable;
+        let refusal = Refusal::None;
+        Changed { refusal, pid: self }
+    }
+
+    pub fn reset_integral(mut self) -> Changed
+        ensures { λ r. ⌜ r ≡ callResetIntegral self ⌝ }
+    {
+        if self.bad() {
+            let refusal = Refusal::Slew;
+            return Changed { refusal, pid: self };
+        }
+        self.integral = 0.0;
+        let refusal = Refusal::None;
+        Changed { refusal, pid: self }
+    }
+
+    pub fn enable_reset_integral(mut self, enable: bool) -> Changed
+        ensures { λ r. ⌜ r ≡ callEnableResetIntegral self enable ⌝ }
+    {
+        if self.bad() {
+            let refusal = Refusal::Slew;
+            return Changed { refusal, pid: self };
+        }
+        self.integral_en = enable;
+        self.integral = 0.0;
+        let refusal = Refusal::None;
+        Changed { refusal, pid: self }
+    }
+
+    pub fn update(self, reference: f32, measurement: f32, prediction: f32) -> Updated
+        ensures { λ r. ⌜ r ≡ callUpdate self reference measurement prediction ⌝ }
+    {
+        if self.bad() {
+            let refusal = Refusal::Slew;
+            let answer = Answer { refusal, y: 0.0 };
+            return Updated { answer, pid: self };
+        }
+        let pid = self.step(reference, measurement, prediction);
+        let terms = pid.terms;
+        let y = terms.total();
+        let refusal = Refusal::None;
+        let answer = Answer { refusal, y };
+        Updated { answer, pid }
+    }
+
+    pub fn get_terms(self) -> Terms
+        ensures { λ r. ⌜ r ≡ callGetTerms self ⌝ }
+    {
+        if self.bad() {
+            let refusal = Refusal::Slew;
+            let terms = PidTerms::default();
+            return Terms { refusal, terms };
+        }
+        let refusal = Refusal::None;
+        let terms = self.terms;
+        Terms { refusal, terms }
+    }
+}
+
+// The controller is changed where it lies, as the Rust's is.
+pub fn update_in_place(
+    pid: &mut RatePid,
+    reference: f32,
+    measurement: f32,
+    prediction: f32,
+) -> Answer
+    ensures { λ r. ⌜ (r ≡ callUpdate (now (pid .entry)) reference measurement prediction .answer) × (now (pid .exit) ≡ callUpdate (now (pid .entry)) reference measurement prediction .pid) ⌝ }
+{
+    let old = *pid;
+    let next = old.update(reference, measurement, prediction);
+    *pid = next.pid;
+    next.answer
+}
