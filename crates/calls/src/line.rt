@@ -130,7 +130,7 @@ fn tell_line(line: &[u8], ops: &mut [u32], states: &mut [u32], res: &mut [u32]) 
 }
 
 // Writes the answer to a line from a place of out on, and answers the next place.
-pub fn answer(line: &[u8], states: &mut [u32], out: &mut [u8], at: usize) -> usize {
+pub(crate) fn answer(line: &[u8], states: &mut [u32], out: &mut [u8], at: usize) -> usize {
     let mut ops = [0u32; WORDS];
     let mut res = [0u32; WORDS];
     answer_in(line, &mut ops, states, &mut res, out, at)

@@ -2,7 +2,7 @@
 use super::told;
 use super::told::Told;
 
-pub fn tell(name: &[u8], ops: &[u32], res: &mut [u32]) -> Told {
+pub(crate) fn tell(name: &[u8], ops: &[u32], res: &mut [u32]) -> Told {
     let count = ops.len();
     match count {
         1 => of_one(name, ops, res),

@@ -8,7 +8,7 @@ use rates::rates as curve;
 use rates::rates::Actual;
 use rates::rates::Rates;
 
-pub fn tell(name: &[u8], ops: &[u32], res: &mut [u32]) -> Told {
+pub(crate) fn tell(name: &[u8], ops: &[u32], res: &mut [u32]) -> Told {
     if told::begins(name, b"rates.") {
         return of_rates(name, ops, res);
     }

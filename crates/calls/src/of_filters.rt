@@ -11,7 +11,7 @@ use filters::MovingAverage;
 use filters::NthOrderLowpass;
 use filters::SlewRate;
 
-pub fn tell(name: &[u8], ops: &[u32], states: &mut [u32], res: &mut [u32]) -> Told {
+pub(crate) fn tell(name: &[u8], ops: &[u32], states: &mut [u32], res: &mut [u32]) -> Told {
     if told::begins(name, b"lowpass.") {
         return on_lowpass(name, ops, states, res);
     }

@@ -4,7 +4,7 @@ use super::told;
 use super::told::Told;
 use airframe::Mixing;
 
-pub fn tell(name: &[u8], ops: &[u32], res: &mut [u32]) -> Told {
+pub(crate) fn tell(name: &[u8], ops: &[u32], res: &mut [u32]) -> Told {
     let x = told::number(ops, 0);
     let y = told::number(ops, 1);
     let reaction = told::number(ops, 2);

@@ -14,7 +14,7 @@ struct MotorTold {
     motor: MotorLin,
 }
 
-pub fn tell(name: &[u8], ops: &[u32], states: &mut [u32], res: &mut [u32]) -> Told {
+pub(crate) fn tell(name: &[u8], ops: &[u32], states: &mut [u32], res: &mut [u32]) -> Told {
     let motor = states::motor_lin_at(states, states::MOTOR_LIN);
     if told::is(name, b"motor_lin.show", ops, 0) {
         states::put_motor_lin(res, 0, motor);

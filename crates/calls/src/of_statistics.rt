@@ -12,7 +12,7 @@ struct StatisticsTold {
     statistics: Statistics,
 }
 
-pub fn tell(name: &[u8], ops: &[u32], states: &mut [u32], res: &mut [u32]) -> Told {
+pub(crate) fn tell(name: &[u8], ops: &[u32], states: &mut [u32], res: &mut [u32]) -> Told {
     let s = states::statistics_at(states, states::STATISTICS);
     if told::is(name, b"statistics.show", ops, 0) {
         states::put_statistics(res, 0, s);

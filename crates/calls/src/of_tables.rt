@@ -7,7 +7,7 @@ use super::told::Told;
 // As many numbers as a line has room for.
 const RUN: usize = 224;
 
-pub fn tell(ops: &[u32], res: &mut [u32]) -> Told {
+pub(crate) fn tell(ops: &[u32], res: &mut [u32]) -> Told {
     if ops.len() == 0 {
         return Told::Nothing;
     }

@@ -39,7 +39,7 @@ pub const STATISTICS: usize = 65;
 // All of them together.
 pub const ALL: usize = 69;
 
-pub fn lowpass_at(w: &[u32], at: usize) -> Lowpass
+pub(crate) fn lowpass_at(w: &[u32], at: usize) -> Lowpass
     requires { ⌜ at < 4096 ⌝ }
 {
     Lowpass {
@@ -51,7 +51,7 @@ pub fn lowpass_at(w: &[u32], at: usize) -> Lowpass
     }
 }
 
-pub fn put_lowpass(w: &mut [u32], at: usize, f: Lowpass)
+pub(crate) fn put_lowpass(w: &mut [u32], at: usize, f: Lowpass)
     requires { ⌜ at < 4096 ⌝ }
 {
     told::put_number(w, at, f.tau);
@@ -61,7 +61,7 @@ pub fn put_lowpass(w: &mut [u32], at: usize, f: Lowpass)
     told::put_number(w, at + 4, f.alpha1);
 }
 
-pub fn highpass_at(w: &[u32], at: usize) -> Highpass
+pub(crate) fn highpass_at(w: &[u32], at: usize) -> Highpass
     requires { ⌜ at < 4096 ⌝ }
 {
     Highpass {
@@ -73,7 +73,7 @@ pub fn highpass_at(w: &[u32], at: usize) -> Highpass
     }
 }
 
-pub fn put_highpass(w: &mut [u32], at: usize, f: Highpass)
+pub(crate) fn put_highpass(w: &mut [u32], at: usize, f: Highpass)
     requires { ⌜ at < 4096 ⌝ }
 {
     told::put_number(w, at, f.tau);
@@ -83,7 +83,7 @@ pub fn put_highpass(w: &mut [u32], at: usize, f: Highpass)
     told::put_number(w, at + 4, f.alpha);
 }
 
-pub fn integrating_highpass_at(w: &[u32], at: usize) -> IntegratingHighpass
+pub(crate) fn integrating_highpass_at(w: &[u32], at: usize) -> IntegratingHighpass
     requires { ⌜ at < 4096 ⌝ }
 {
     IntegratingHighpass {
@@ -94,7 +94,7 @@ pub fn integrating_highpass_at(w: &[u32], at: usize) -> IntegratingHighpass
     }
 }
 
-pub fn put_integrating_highpass(w: &mut [u32], at: usize, f: IntegratingHighpass)
+pub(crate) fn put_integrating_highpass(w: &mut [u32], at: usize, f: IntegratingHighpass)
     requires { ⌜ at < 4096 ⌝ }
 {
     told::put_number(w, at, f.tau);
@@ -103,7 +103,7 @@ pub fn put_integrating_highpass(w: &mut [u32], at: usize, f: IntegratingHighpass
     told::put_number(w, at + 3, f.y_prev);
 }
 
-pub fn integrating_complementary_at(w: &[u32], at: usize) -> IntegratingComplementary
+pub(crate) fn integrating_complementary_at(w: &[u32], at: usize) -> IntegratingComplementary
     requires { ⌜ at < 4096 ⌝ }
 {
     IntegratingComplementary {
@@ -114,7 +114,7 @@ pub fn integrating_complementary_at(w: &[u32], at: usize) -> IntegratingCompleme
     }
 }
 
-pub fn put_integrating_complementary(w: &mut [u32], at: usize, f: IntegratingComplementary)
+pub(crate) fn put_integrating_complementary(w: &mut [u32], at: usize, f: IntegratingComplementary)
     requires { ⌜ at < 4096 ⌝ }
 {
     told::put_number(w, at, f.tau);
@@ -123,7 +123,7 @@ pub fn put_integrating_complementary(w: &mut [u32], at: usize, f: IntegratingCom
     told::put_number(w, at + 3, f.y_prev);
 }
 
-pub fn slew_rate_at(w: &[u32], at: usize) -> SlewRate
+pub(crate) fn slew_rate_at(w: &[u32], at: usize) -> SlewRate
     requires { ⌜ at < 4096 ⌝ }
 {
     SlewRate {
@@ -133,7 +133,7 @@ pub fn slew_rate_at(w: &[u32], at: usize) -> SlewRate
     }
 }
 
-pub fn put_slew_rate(w: &mut [u32], at: usize, f: SlewRate)
+pub(crate) fn put_slew_rate(w: &mut [u32], at: usize, f: SlewRate)
     requires { ⌜ at < 4096 ⌝ }
 {
     told::put_number(w, at, f.rate_limit);
@@ -141,7 +141,7 @@ pub fn put_slew_rate(w: &mut [u32], at: usize, f: SlewRate)
     told::put_number(w, at + 2, f.dt);
 }
 
-pub fn lowpass2_at(w: &[u32], at: usize) -> NthOrderLowpass
+pub(crate) fn lowpass2_at(w: &[u32], at: usize) -> NthOrderLowpass
     requires { ⌜ at < 4000 ⌝ }
 {
     let first = lowpass_at(w, at);
@@ -149,7 +149,7 @@ pub fn lowpass2_at(w: &[u32], at: usize) -> NthOrderLowpass
     NthOrderLowpass { first, second }
 }
 
-pub fn put_lowpass2(w: &mut [u32], at: usize, f: NthOrderLowpass)
+pub(crate) fn put_lowpass2(w: &mut [u32], at: usize, f: NthOrderLowpass)
     requires { ⌜ at < 4000 ⌝ }
 {
     let first = f.first;
@@ -158,7 +158,7 @@ pub fn put_lowpass2(w: &mut [u32], at: usize, f: NthOrderLowpass)
     put_lowpass(w, at + 5, second);
 }
 
-pub fn complementary_at(w: &[u32], at: usize) -> Complementary
+pub(crate) fn complementary_at(w: &[u32], at: usize) -> Complementary
     requires { ⌜ at < 4000 ⌝ }
 {
     let lp_filter = lowpass_at(w, at);
@@ -169,7 +169,7 @@ pub fn complementary_at(w: &[u32], at: usize) -> Complementary
     }
 }
 
-pub fn put_complementary(w: &mut [u32], at: usize, f: Complementary)
+pub(crate) fn put_complementary(w: &mut [u32], at: usize, f: Complementary)
     requires { ⌜ at < 4000 ⌝ }
 {
     let low = f.lp_filter;
@@ -190,7 +190,7 @@ fn slots_at(w: &[u32], at: usize) -> [f32; 16]
     slots
 }
 
-pub fn put_slots(w: &mut [u32], at: usize, slots: [f32; 16])
+pub(crate) fn put_slots(w: &mut [u32], at: usize, slots: [f32; 16])
     requires { ⌜ at < 4096 ⌝ }
 {
     let mut i = 0;
@@ -200,7 +200,7 @@ pub fn put_slots(w: &mut [u32], at: usize, slots: [f32; 16])
     }
 }
 
-pub fn moving_average_at(w: &[u32], at: usize) -> MovingAverage
+pub(crate) fn moving_average_at(w: &[u32], at: usize) -> MovingAverage
     requires { ⌜ at < 4000 ⌝ }
 {
     let slots = slots_at(w, at + 2);
@@ -211,7 +211,7 @@ pub fn moving_average_at(w: &[u32], at: usize) -> MovingAverage
     }
 }
 
-pub fn put_moving_average(w: &mut [u32], at: usize, f: MovingAverage)
+pub(crate) fn put_moving_average(w: &mut [u32], at: usize, f: MovingAverage)
     requires { ⌜ at < 4000 ⌝ }
 {
     let slots = f.slots;
@@ -220,7 +220,7 @@ pub fn put_moving_average(w: &mut [u32], at: usize, f: MovingAverage)
     put_slots(w, at + 2, slots);
 }
 
-pub fn motor_lin_at(w: &[u32], at: usize) -> MotorLin
+pub(crate) fn motor_lin_at(w: &[u32], at: usize) -> MotorLin
     requires { ⌜ at < 4096 ⌝ }
 {
     let c_min = Command(told::number(w, at + 2));
@@ -237,7 +237,7 @@ pub fn motor_lin_at(w: &[u32], at: usize) -> MotorLin
     }
 }
 
-pub fn put_motor_lin(w: &mut [u32], at: usize, f: MotorLin)
+pub(crate) fn put_motor_lin(w: &mut [u32], at: usize, f: MotorLin)
     requires { ⌜ at < 4096 ⌝ }
 {
     let c_min = f.c_min;
@@ -252,7 +252,7 @@ pub fn put_motor_lin(w: &mut [u32], at: usize, f: MotorLin)
     told::put_number(w, at + 5, f_max.0);
 }
 
-pub fn statistics_at(w: &[u32], at: usize) -> Statistics
+pub(crate) fn statistics_at(w: &[u32], at: usize) -> Statistics
     requires { ⌜ at < 4096 ⌝ }
 {
     Statistics {
@@ -263,7 +263,7 @@ pub fn statistics_at(w: &[u32], at: usize) -> Statistics
     }
 }
 
-pub fn put_statistics(w: &mut [u32], at: usize, f: Statistics)
+pub(crate) fn put_statistics(w: &mut [u32], at: usize, f: Statistics)
     requires { ⌜ at < 4096 ⌝ }
 {
     told::put_bool(w, at, f.initialized);

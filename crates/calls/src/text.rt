@@ -1,12 +1,12 @@
 // Bytes of text, in and out. A place past the end of a slice reads as 0, and a write there is left out, so that nothing is
 // asked of a caller.
 
-pub fn byte(s: &[u8], at: usize) -> u8 {
+pub(crate) fn byte(s: &[u8], at: usize) -> u8 {
     if at < s.len() { s[at] } else { 0 }
 }
 
 // Writes b at a place, and answers the next place.
-pub fn put(out: &mut [u8], at: usize, b: u8) -> usize {
+pub(crate) fn put(out: &mut [u8], at: usize, b: u8) -> usize {
     if at < out.len() {
         out[at] = b;
         return at + 1;
@@ -15,7 +15,7 @@ pub fn put(out: &mut [u8], at: usize, b: u8) -> usize {
 }
 
 // The value of a lowercase hexadecimal digit, and 16 for any other byte.
-pub fn digit_value(b: u8) -> u32 {
+pub(crate) fn digit_value(b: u8) -> u32 {
     if b'0' <= b && b <= b'9' {
         return (b - b'0') as u32;
     }
@@ -43,14 +43,14 @@ fn put_half(out: &mut [u8], at: usize, v: u32) -> usize {
 }
 
 // Writes a space and the 8 digits of v.
-pub fn put_word(out: &mut [u8], at: usize, v: u32) -> usize {
+pub(crate) fn put_word(out: &mut [u8], at: usize, v: u32) -> usize {
     let high = put(out, at, b' ');
     let low = put_half(out, high, v / 0x1_0000);
     put_half(out, low, v)
 }
 
 // Writes a number below 100 in decimal.
-pub fn put_decimal(out: &mut [u8], at: usize, n: u32) -> usize {
+pub(crate) fn put_decimal(out: &mut [u8], at: usize, n: u32) -> usize {
     if n < 10 {
         return put(out, at, digit(n));
     }
@@ -59,7 +59,7 @@ pub fn put_decimal(out: &mut [u8], at: usize, n: u32) -> usize {
 }
 
 // Writes the answer to a line that is not of the form.
-pub fn malformed(out: &mut [u8], at: usize) -> usize {
+pub(crate) fn malformed(out: &mut [u8], at: usize) -> usize {
     let p = put(out, at, b'?');
     put(out, p, b'\n')
 }

@@ -9,7 +9,7 @@ pub enum Told {
 }
 
 // Whether the name is this one.
-pub fn same(name: &[u8], w: &[u8]) -> bool {
+pub(crate) fn same(name: &[u8], w: &[u8]) -> bool {
     if name.len() != w.len() {
         return false;
     }
@@ -24,7 +24,7 @@ pub fn same(name: &[u8], w: &[u8]) -> bool {
 }
 
 // Whether the line is this call: its name, and as many operands as it takes.
-pub fn is(name: &[u8], w: &[u8], ops: &[u32], count: usize) -> bool {
+pub(crate) fn is(name: &[u8], w: &[u8], ops: &[u32], count: usize) -> bool {
     if ops.len() != count {
         return false;
     }
@@ -32,7 +32,7 @@ pub fn is(name: &[u8], w: &[u8], ops: &[u32], count: usize) -> bool {
 }
 
 // The same for a call whose operand i is a bool.
-pub fn is_on(name: &[u8], w: &[u8], ops: &[u32], count: usize, i: usize) -> bool {
+pub(crate) fn is_on(name: &[u8], w: &[u8], ops: &[u32], count: usize, i: usize) -> bool {
     if 1 < word(ops, i) {
         return false;
     }
@@ -40,7 +40,7 @@ pub fn is_on(name: &[u8], w: &[u8], ops: &[u32], count: usize, i: usize) -> bool
 }
 
 // Whether the name begins with this.
-pub fn begins(name: &[u8], w: &[u8]) -> bool {
+pub(crate) fn begins(name: &[u8], w: &[u8]) -> bool {
     if name.len() < w.len() {
         return false;
     }
@@ -48,25 +48,25 @@ pub fn begins(name: &[u8], w: &[u8]) -> bool {
     same(&name[..n], w)
 }
 
-pub fn word(ops: &[u32], i: usize) -> u32 {
+pub(crate) fn word(ops: &[u32], i: usize) -> u32 {
     if i < ops.len() { ops[i] } else { 0 }
 }
 
-pub fn number(ops: &[u32], i: usize) -> f32 {
+pub(crate) fn number(ops: &[u32], i: usize) -> f32 {
     float::from_bits(word(ops, i))
 }
 
-pub fn put_word(res: &mut [u32], i: usize, v: u32) {
+pub(crate) fn put_word(res: &mut [u32], i: usize, v: u32) {
     if i < res.len() {
         res[i] = v;
     }
 }
 
-pub fn put_number(res: &mut [u32], i: usize, x: f32) {
+pub(crate) fn put_number(res: &mut [u32], i: usize, x: f32) {
     put_word(res, i, float::to_bits(x));
 }
 
-pub fn put_bool(res: &mut [u32], i: usize, b: bool) {
+pub(crate) fn put_bool(res: &mut [u32], i: usize, b: bool) {
     if b {
         put_word(res, i, 1);
     } else {
@@ -75,12 +75,12 @@ pub fn put_bool(res: &mut [u32], i: usize, b: bool) {
 }
 
 // An answer of one number, nothing refused.
-pub fn one(res: &mut [u32], y: f32) -> Told {
+pub(crate) fn one(res: &mut [u32], y: f32) -> Told {
     put_number(res, 0, y);
     Told::Answer(0, 1)
 }
 
 // An answer whose results are in their place.
-pub fn answered(r: Refusal, count: usize) -> Told {
+pub(crate) fn answered(r: Refusal, count: usize) -> Told {
     Told::Answer(r.number(), count)
 }
