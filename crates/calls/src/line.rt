@@ -1,16 +1,8 @@
 // One line: its form, the part that knows its call, and the text of the answer.
 ghost use Prim.Native.Nat.{_*_, _≤_};
 ghost use lib.ListN.{length};
-use super::numbers;
-use super::of_curves;
-use super::of_filters;
-use super::of_frames;
-use super::of_motors;
-use super::of_statistics;
-use super::of_tables;
-use super::text;
-use super::told;
-use super::told::Told;
+use told::Told;
+use told::text;
 
 // As many operands as a line has room for, and as many results.
 const WORDS: usize = 224;
@@ -74,30 +66,32 @@ fn operands(rest: &[u8], count: usize, ops: &mut [u32]) -> bool
     true
 }
 
-// The part that knows the call. Each later crate adds its own part here.
+// The parts, one after the other, until one knows the call. Each later crate adds its own part here.
 fn tell(name: &[u8], ops: &[u32], states: &mut [u32], res: &mut [u32]) -> Told {
-    match numbers::tell(name, ops, res) {
+    match of_numbers::tell(name, ops, res) {
         Told::Answer(refusal, n) => Told::Answer(refusal, n),
-        Told::Nothing => tell_more(name, ops, states, res),
+        Told::Nothing => tell_curve(name, ops, states, res),
     }
 }
 
-fn tell_more(name: &[u8], ops: &[u32], states: &mut [u32], res: &mut [u32]) -> Told {
-    if told::begins(name, b"motor_lin.") {
-        return of_motors::tell(name, ops, states, res);
-    }
-    if told::begins(name, b"statistics.") {
-        return of_statistics::tell(name, ops, states, res);
-    }
-    if told::begins(name, b"quad_") {
-        return of_frames::tell(name, ops, res);
-    }
-    if told::same(name, b"linear_lut") {
-        return of_tables::tell(ops, res);
-    }
+fn tell_curve(name: &[u8], ops: &[u32], states: &mut [u32], res: &mut [u32]) -> Told {
     match of_curves::tell(name, ops, res) {
         Told::Answer(refusal, n) => Told::Answer(refusal, n),
-        Told::Nothing => of_filters::tell(name, ops, states, res),
+        Told::Nothing => tell_filter(name, ops, states, res),
+    }
+}
+
+fn tell_filter(name: &[u8], ops: &[u32], states: &mut [u32], res: &mut [u32]) -> Told {
+    match of_filters::tell(name, ops, states, res) {
+        Told::Answer(refusal, n) => Told::Answer(refusal, n),
+        Told::Nothing => tell_motor(name, ops, states, res),
+    }
+}
+
+fn tell_motor(name: &[u8], ops: &[u32], states: &mut [u32], res: &mut [u32]) -> Told {
+    match of_motors::tell(name, ops, states, res) {
+        Told::Answer(refusal, n) => Told::Answer(refusal, n),
+        Told::Nothing => of_controllers::tell(name, ops, states, res),
     }
 }
 

@@ -1,18 +1,10 @@
 // Makes every public call by a line of text, one answer a line: docs/CALLS.md has the form of the lines.
 mod line;
-mod numbers;
-mod of_curves;
-mod of_filters;
-mod of_frames;
-mod of_motors;
-mod of_statistics;
-mod of_tables;
-mod states;
-mod text;
-mod told;
 
 use libc::STDIN_FILENO;
 use libc::STDOUT_FILENO;
+use told::places;
+use told::text;
 
 // What is kept from byte to byte and from read to read: how many bytes of a line have come, whether it is longer than a
 // line may be, how many bytes of answers wait to be written, and whether all writes went well.
@@ -158,7 +150,7 @@ fn run(input: &mut [u8], line: &mut [u8], states: &mut [u32], out: &mut [u8]) {
 fn main() {
     let mut input = io::large_buffer();
     let mut line = io::buffer();
-    let mut states = [0u32; states::ALL];
+    let mut states = [0u32; places::ALL];
     let mut out = io::large_buffer();
     run(&mut input, &mut line, &mut states, &mut out);
 }

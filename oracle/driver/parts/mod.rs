@@ -31,8 +31,8 @@ parts! {
     motor_lin
     statistics
     airframe
-    ;
     angle_pid
     rate_pid
+    ;
     bank
 }

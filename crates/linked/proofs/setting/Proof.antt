@@ -1,0 +1,26 @@
+use lib.Ieee.{binary32, ofBits, div}
+use lib.ListN.{List·getD-eq-default}
+use lib.Ieee.{nan}
+use mathlib.Core.Path.{_≡_, refl, sym, _∙_}
+use borrow.Author.Needs.{needs}
+use Rattle.linked.proofs.setting.Statement.{statement}
+use Rattle.linked.proofs.setting.Tie as tie
+
+mul-result : tie.Need-mul-result
+mul-result c = search needs
+
+shared-slice-read-result : tie.Need-shared-slice-read-result
+shared-slice-read-result c = search needs
+
+returns : tie.Need-returns
+returns c = search needs
+
+nan-is : div binary32 (ofBits binary32 0) (ofBits binary32 0) ≡ nan
+unfolding div ofBits
+nan-is = refl
+
+returns-2 : tie.Need-returns-2
+returns-2 c = nan-is ∙ sym (List·getD-eq-default (c .before .args .s .now) nan (c .if1 .left))
+
+pub setting-spec : {M : Type 1} → statement M
+setting-spec = tie.close (tie.spec mul-result shared-slice-read-result returns returns-2)

@@ -1,0 +1,240 @@
+// The controllers' fields as words, in the order in which docs/CALLS.md has them. A controller is kept as its words between two calls, so
+// that showing it and setting it by hand are these two directions. The numbers of a switch that is off are words of 0.
+ghost use Prim.Native.Nat.{_<_};
+use angle_pid::LpFilter;
+use angle_pid::Pid;
+use angle_pid::Range;
+use filters::Lowpass;
+use filters::NthOrderLowpass;
+use filters::SlewRate;
+use rate_pid::PidTerms;
+use rate_pid::RatePid;
+use rate_pid::Slew;
+
+pub(crate) fn lowpass_at(w: &[u32], at: usize) -> Lowpass
+    requires { ⌜ at < 4096 ⌝ }
+{
+    Lowpass {
+        tau: told::number(w, at),
+        dt: told::number(w, at + 1),
+        y: told::number(w, at + 2),
+        alpha0: told::number(w, at + 3),
+        alpha1: told::number(w, at + 4),
+    }
+}
+
+fn put_lowpass(w: &mut [u32], at: usize, f: Lowpass)
+    requires { ⌜ at < 4096 ⌝ }
+{
+    told::put_number(w, at, f.tau);
+    told::put_number(w, at + 1, f.dt);
+    told::put_number(w, at + 2, f.y);
+    told::put_number(w, at + 3, f.alpha0);
+    told::put_number(w, at + 4, f.alpha1);
+}
+
+// Three numbers in a row, as a range's and a slew limiter's are.
+fn put_three(w: &mut [u32], at: usize, a: f32, b: f32, c: f32)
+    requires { ⌜ at < 4096 ⌝ }
+{
+    told::put_number(w, at, a);
+    told::put_number(w, at + 1, b);
+    told::put_number(w, at + 2, c);
+}
+
+pub(crate) fn range_at(w: &[u32], at: usize) -> Range
+    requires { ⌜ at < 4096 ⌝ }
+{
+    let min = told::number(w, at + 1);
+    let max = told::number(w, at + 2);
+    if told::word(w, at) == 1 {
+        Range::On { min, max }
+    } else {
+        Range::Off
+    }
+}
+
+fn put_range(w: &mut [u32], at: usize, r: Range)
+    requires { ⌜ at < 4096 ⌝ }
+{
+    match r {
+        Range::Off => put_three(w, at, 0.0, 0.0, 0.0),
+        Range::On { min, max } => {
+            put_three(w, at, 0.0, min, max);
+            told::put_word(w, at, 1);
+        }
+    }
+}
+
+fn lp_filter_at(w: &[u32], at: usize) -> LpFilter
+    requires { ⌜ at < 4000 ⌝ }
+{
+    let filter = lowpass_at(w, at + 1);
+    if told::word(w, at) == 1 {
+        LpFilter::On(filter)
+    } else {
+        LpFilter::Off
+    }
+}
+
+fn put_lp_filter(w: &mut [u32], at: usize, f: LpFilter)
+    requires { ⌜ at < 4000 ⌝ }
+{
+    match f {
+        LpFilter::Off => {
+            put_three(w, at, 0.0, 0.0, 0.0);
+            put_three(w, at + 3, 0.0, 0.0, 0.0);
+        }
+        LpFilter::On(filter) => {
+            told::put_word(w, at, 1);
+            put_lowpass(w, at + 1, filter);
+        }
+    }
+}
+
+pub(crate) fn pid_at(w: &[u32], at: usize) -> Pid
+    requires { ⌜ at < 2000 ⌝ }
+{
+    let wrapping = range_at(w, at + 7);
+    let output_limit = range_at(w, at + 10);
+    let anti_windup = range_at(w, at + 13);
+    let lp_filter = lp_filter_at(w, at + 16);
+    Pid {
+        kp: told::number(w, at),
+        ki: told::number(w, at + 1),
+        kd: told::number(w, at + 2),
+        ts: told::number(w, at + 3),
+        integral: told::number(w, at + 4),
+        integral_en: told::word(w, at + 5) == 1,
+        prev_error: told::number(w, at + 6),
+        wrapping,
+        output_limit,
+        anti_windup,
+        lp_filter,
+    }
+}
+
+pub(crate) fn put_pid(w: &mut [u32], at: usize, p: Pid)
+    requires { ⌜ at < 2000 ⌝ }
+{
+    let wrapping = p.wrapping;
+    let output_limit = p.output_limit;
+    let anti_windup = p.anti_windup;
+    let lp_filter = p.lp_filter;
+    put_three(w, at, p.kp, p.ki, p.kd);
+    told::put_number(w, at + 3, p.ts);
+    told::put_number(w, at + 4, p.integral);
+    told::put_bool(w, at + 5, p.integral_en);
+    told::put_number(w, at + 6, p.prev_error);
+    put_range(w, at + 7, wrapping);
+    put_range(w, at + 10, output_limit);
+    put_range(w, at + 13, anti_windup);
+    put_lp_filter(w, at + 16, lp_filter);
+}
+
+fn slew_at(w: &[u32], at: usize) -> Slew
+    requires { ⌜ at < 4000 ⌝ }
+{
+    let limiter = SlewRate {
+        rate_limit: told::number(w, at + 1),
+        signal: told::number(w, at + 2),
+        dt: told::number(w, at + 3),
+    };
+    if told::word(w, at) == 1 {
+        Slew::On(limiter)
+    } else {
+        Slew::Off
+    }
+}
+
+fn put_slew(w: &mut [u32], at: usize, s: Slew)
+    requires { ⌜ at < 4000 ⌝ }
+{
+    match s {
+        Slew::Off => {
+            told::put_word(w, at, 0);
+            put_three(w, at + 1, 0.0, 0.0, 0.0);
+        }
+        Slew::On(l) => {
+            told::put_word(w, at, 1);
+            put_three(w, at + 1, l.rate_limit, l.signal, l.dt);
+        }
+    }
+}
+
+fn lowpass2_at(w: &[u32], at: usize) -> NthOrderLowpass
+    requires { ⌜ at < 4000 ⌝ }
+{
+    let first = lowpass_at(w, at);
+    let second = lowpass_at(w, at + 5);
+    NthOrderLowpass { first, second }
+}
+
+fn put_lowpass2(w: &mut [u32], at: usize, f: NthOrderLowpass)
+    requires { ⌜ at < 4000 ⌝ }
+{
+    let first = f.first;
+    let second = f.second;
+    put_lowpass(w, at, first);
+    put_lowpass(w, at + 5, second);
+}
+
+fn terms_at(w: &[u32], at: usize) -> PidTerms
+    requires { ⌜ at < 4000 ⌝ }
+{
+    PidTerms {
+        p_out: told::number(w, at),
+        i_out: told::number(w, at + 1),
+        dr_out: told::number(w, at + 2),
+        dm_out: told::number(w, at + 3),
+    }
+}
+
+pub(crate) fn put_terms(w: &mut [u32], at: usize, t: PidTerms)
+    requires { ⌜ at < 4000 ⌝ }
+{
+    told::put_number(w, at, t.p_out);
+    told::put_number(w, at + 1, t.i_out);
+    told::put_number(w, at + 2, t.dr_out);
+    told::put_number(w, at + 3, t.dm_out);
+}
+
+pub(crate) fn rate_pid_at(w: &[u32], at: usize) -> RatePid
+    requires { ⌜ at < 2000 ⌝ }
+{
+    let terms = terms_at(w, at + 6);
+    let lowpass = lowpass_at(w, at + 12);
+    let d_lowpass = lowpass2_at(w, at + 17);
+    let d_slew = slew_at(w, at + 27);
+    RatePid {
+        kp: told::number(w, at),
+        ki: told::number(w, at + 1),
+        kd: told::number(w, at + 2),
+        integral: told::number(w, at + 3),
+        prev_meas: told::number(w, at + 4),
+        prev_ref: told::number(w, at + 5),
+        terms,
+        dt: told::number(w, at + 10),
+        integral_en: told::word(w, at + 11) == 1,
+        lowpass,
+        d_lowpass,
+        d_slew,
+    }
+}
+
+pub(crate) fn put_rate_pid(w: &mut [u32], at: usize, p: RatePid)
+    requires { ⌜ at < 2000 ⌝ }
+{
+    let terms = p.terms;
+    let lowpass = p.lowpass;
+    let d_lowpass = p.d_lowpass;
+    let d_slew = p.d_slew;
+    put_three(w, at, p.kp, p.ki, p.kd);
+    put_three(w, at + 3, p.integral, p.prev_meas, p.prev_ref);
+    put_terms(w, at + 6, terms);
+    told::put_number(w, at + 10, p.dt);
+    told::put_bool(w, at + 11, p.integral_en);
+    put_lowpass(w, at + 12, lowpass);
+    put_lowpass2(w, at + 17, d_lowpass);
+    put_slew(w, at + 27, d_slew);
+}

@@ -1,0 +1,170 @@
+// The states' fields as words, in the order in which docs/CALLS.md has them. A state is kept as its words between two calls, so that
+// showing it and setting it by hand are these two directions.
+ghost use Prim.Native.Nat.{_<_};
+use filters::Complementary;
+use filters::Highpass;
+use filters::IntegratingComplementary;
+use filters::IntegratingHighpass;
+use filters::Lowpass;
+use filters::MovingAverage;
+use filters::NthOrderLowpass;
+use filters::SlewRate;
+
+pub(crate) fn lowpass_at(w: &[u32], at: usize) -> Lowpass
+    requires { ⌜ at < 4096 ⌝ }
+{
+    Lowpass {
+        tau: told::number(w, at),
+        dt: told::number(w, at + 1),
+        y: told::number(w, at + 2),
+        alpha0: told::number(w, at + 3),
+        alpha1: told::number(w, at + 4),
+    }
+}
+
+pub(crate) fn put_lowpass(w: &mut [u32], at: usize, f: Lowpass)
+    requires { ⌜ at < 4096 ⌝ }
+{
+    told::put_number(w, at, f.tau);
+    told::put_number(w, at + 1, f.dt);
+    told::put_number(w, at + 2, f.y);
+    told::put_number(w, at + 3, f.alpha0);
+    told::put_number(w, at + 4, f.alpha1);
+}
+
+pub(crate) fn highpass_at(w: &[u32], at: usize) -> Highpass
+    requires { ⌜ at < 4096 ⌝ }
+{
+    Highpass {
+        tau: told::number(w, at),
+        dt: told::number(w, at + 1),
+        y: told::number(w, at + 2),
+        x_prev: told::number(w, at + 3),
+        alpha: told::number(w, at + 4),
+    }
+}
+
+pub(crate) fn put_highpass(w: &mut [u32], at: usize, f: Highpass)
+    requires { ⌜ at < 4096 ⌝ }
+{
+    told::put_number(w, at, f.tau);
+    told::put_number(w, at + 1, f.dt);
+    told::put_number(w, at + 2, f.y);
+    told::put_number(w, at + 3, f.x_prev);
+    told::put_number(w, at + 4, f.alpha);
+}
+
+pub(crate) fn integrating_highpass_at(w: &[u32], at: usize) -> IntegratingHighpass
+    requires { ⌜ at < 4096 ⌝ }
+{
+    IntegratingHighpass {
+        tau: told::number(w, at),
+        dt: told::number(w, at + 1),
+        alpha: told::number(w, at + 2),
+        y_prev: told::number(w, at + 3),
+    }
+}
+
+pub(crate) fn put_integrating_highpass(w: &mut [u32], at: usize, f: IntegratingHighpass)
+    requires { ⌜ at < 4096 ⌝ }
+{
+    told::put_number(w, at, f.tau);
+    told::put_number(w, at + 1, f.dt);
+    told::put_number(w, at + 2, f.alpha);
+    told::put_number(w, at + 3, f.y_prev);
+}
+
+pub(crate) fn integrating_complementary_at(w: &[u32], at: usize) -> IntegratingComplementary
+    requires { ⌜ at < 4096 ⌝ }
+{
+    IntegratingComplementary {
+        tau: told::number(w, at),
+        dt: told::number(w, at + 1),
+        alpha: told::number(w, at + 2),
+        y_prev: told::number(w, at + 3),
+    }
+}
+
+pub(crate) fn put_integrating_complementary(w: &mut [u32], at: usize, f: IntegratingComplementary)
+    requires { ⌜ at < 4096 ⌝ }
+{
+    told::put_number(w, at, f.tau);
+    told::put_number(w, at + 1, f.dt);
+    told::put_number(w, at + 2, f.alpha);
+    told::put_number(w, at + 3, f.y_prev);
+}
+
+pub(crate) fn slew_rate_at(w: &[u32], at: usize) -> SlewRate
+    requires { ⌜ at < 4096 ⌝ }
+{
+    SlewRate {
+        rate_limit: told::number(w, at),
+        signal: told::number(w, at + 1),
+        dt: told::number(w, at + 2),
+    }
+}
+
+pub(crate) fn put_slew_rate(w: &mut [u32], at: usize, f: SlewRate)
+    requires { ⌜ at < 4096 ⌝ }
+{
+    told::put_number(w, at, f.rate_limit);
+    told::put_number(w, at + 1, f.signal);
+    told::put_number(w, at + 2, f.dt);
+}
+
+pub(crate) fn lowpass2_at(w: &[u32], at: usize) -> NthOrderLowpass
+    requires { ⌜ at < 4000 ⌝ }
+{
+    let first = lowpass_at(w, at);
+    let second = lowpass_at(w, at + 5);
+    NthOrderLowpass { first, second }
+}
+
+pub(crate) fn put_lowpass2(w: &mut [u32], at: usize, f: NthOrderLowpass)
+    requires { ⌜ at < 4000 ⌝ }
+{
+    let first = f.first;
+    let second = f.second;
+    put_lowpass(w, at, first);
+    put_lowpass(w, at + 5, second);
+}
+
+pub(crate) fn complementary_at(w: &[u32], at: usize) -> Complementary
+    requires { ⌜ at < 4000 ⌝ }
+{
+    let lp_filter = lowpass_at(w, at);
+    let hp_filter = highpass_at(w, at + 5);
+    Complementary {
+        lp_filter,
+        hp_filter,
+    }
+}
+
+pub(crate) fn put_complementary(w: &mut [u32], at: usize, f: Complementary)
+    requires { ⌜ at < 4000 ⌝ }
+{
+    let low = f.lp_filter;
+    let high = f.hp_filter;
+    put_lowpass(w, at, low);
+    put_highpass(w, at + 5, high);
+}
+
+pub(crate) fn moving_average_at(w: &[u32], at: usize) -> MovingAverage
+    requires { ⌜ at < 4000 ⌝ }
+{
+    let slots = told::slots_at(w, at + 2);
+    MovingAverage {
+        length: told::word(w, at) as usize,
+        head: told::word(w, at + 1) as usize,
+        slots,
+    }
+}
+
+pub(crate) fn put_moving_average(w: &mut [u32], at: usize, f: MovingAverage)
+    requires { ⌜ at < 4000 ⌝ }
+{
+    let slots = f.slots;
+    told::put_word(w, at, (f.length % 0x1_0000_0000) as u32);
+    told::put_word(w, at + 1, (f.head % 0x1_0000_0000) as u32);
+    told::put_slots(w, at + 2, slots);
+}
