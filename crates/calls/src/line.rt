@@ -91,7 +91,14 @@ fn tell_filter(name: &[u8], ops: &[u32], states: &mut [u32], res: &mut [u32]) ->
 fn tell_motor(name: &[u8], ops: &[u32], states: &mut [u32], res: &mut [u32]) -> Told {
     match of_motors::tell(name, ops, states, res) {
         Told::Answer(refusal, n) => Told::Answer(refusal, n),
-        Told::Nothing => of_controllers::tell(name, ops, states, res),
+        Told::Nothing => tell_controller(name, ops, states, res),
+    }
+}
+
+fn tell_controller(name: &[u8], ops: &[u32], states: &mut [u32], res: &mut [u32]) -> Told {
+    match of_controllers::tell(name, ops, states, res) {
+        Told::Answer(refusal, n) => Told::Answer(refusal, n),
+        Told::Nothing => of_bank::tell(name, ops, states, res),
     }
 }
 

@@ -70,6 +70,13 @@ abs-keeps (inf false) l h = refl
 abs-keeps (fin true m e) l h = absurd (true≢false (sym (sign-of (fin true m e) h) ∙ l))
 abs-keeps (fin false m e) l h = refl
 
+pub abs-turns : (x : Float) → eq x F.zero ≡ false → cond (lt x F.zero) (neg x) x ≡ absF x
+abs-turns x h = go (lt x F.zero) refl
+  where
+    go : (t : Bool) → lt x F.zero ≡ t → cond t (neg x) x ≡ absF x
+    go true e = abs-below x e
+    go false e = abs-keeps x e h
+
 -- ---- patterns
 
 pub nan-is : nan ≡ F.zero /f F.zero

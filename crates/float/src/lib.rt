@@ -1,7 +1,9 @@
 // What Rust has as methods of f32, as document 01's section 'Arithmetic' fixes it: each for every f32, zeros of either
 // sign, infinities and NaN included.
 ghost use mathlib.Core.Path.{_≡_};
-ghost use lib.Ieee.{binary32, isNan, ofBits, toBits};
+ghost use mathlib.Core.Bool.{cond};
+ghost use lib.Ieee.{binary32, isNan, ofBits, toBits, lt, neg};
+ghost use Rattle.float.specs.F32 as F;
 ghost use Rattle.float.specs.Float.{maxF, minF, clampF, absF, cubeF, fifthF, negative};
 
 // f32::is_nan.
@@ -55,10 +57,15 @@ pub fn clamp(x: f32, low: f32, high: f32) -> f32
 pub fn abs(x: f32) -> f32
     ensures { λ r. ⌜ r ≡ absF x ⌝ }
 {
-    if x < 0.0 {
-        return -x;
-    }
-    if x == 0.0 { 0.0 } else { x }
+    let y = turned(x);
+    if x == 0.0 { 0.0 } else { y }
+}
+
+// -0 stays as it is. The tests of `abs` are made apart so that neither becomes a jump.
+fn turned(x: f32) -> f32
+    ensures { λ r. ⌜ r ≡ cond (lt x F.zero) (neg x) x ⌝ }
+{
+    if x < 0.0 { -x } else { x }
 }
 
 // x.powi(3).

@@ -13,7 +13,7 @@ pub extern "C" fn plumradek_sqrt(x: f32) -> f32
     root::sqrt(x)
 }
 
-fn setting(s: &[f32], i: usize) -> f32
+pub fn setting(s: &[f32], i: usize) -> f32
     ensures { λ r. ⌜ r ≡ getD (now (s .entry)) i nan ⌝ }
 {
     if i < s.len() { s[i] } else { 0.0 / 0.0 }

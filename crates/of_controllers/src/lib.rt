@@ -1,7 +1,7 @@
 // The controllers: crates angle_pid and rate_pid.
 mod of_pid;
 mod of_rate_pid;
-mod states;
+pub mod states;
 
 use told::Told;
 

@@ -190,18 +190,20 @@ fn terms_at(w: &[u32], at: usize) -> PidTerms
     }
 }
 
-pub(crate) fn put_terms(w: &mut [u32], at: usize, t: PidTerms)
-    requires { ⌜ at < 4000 ⌝ }
-{
+pub fn put_terms(w: &mut [u32], at: usize, t: PidTerms) {
+    if 1999 < at {
+        return;
+    }
     told::put_number(w, at, t.p_out);
     told::put_number(w, at + 1, t.i_out);
     told::put_number(w, at + 2, t.dr_out);
     told::put_number(w, at + 3, t.dm_out);
 }
 
-pub(crate) fn rate_pid_at(w: &[u32], at: usize) -> RatePid
-    requires { ⌜ at < 2000 ⌝ }
-{
+pub fn rate_pid_at(w: &[u32], at: usize) -> RatePid {
+    if 1999 < at {
+        return RatePid::zero();
+    }
     let terms = terms_at(w, at + 6);
     let lowpass = lowpass_at(w, at + 12);
     let d_lowpass = lowpass2_at(w, at + 17);
@@ -222,9 +224,10 @@ pub(crate) fn rate_pid_at(w: &[u32], at: usize) -> RatePid
     }
 }
 
-pub(crate) fn put_rate_pid(w: &mut [u32], at: usize, p: RatePid)
-    requires { ⌜ at < 2000 ⌝ }
-{
+pub fn put_rate_pid(w: &mut [u32], at: usize, p: RatePid) {
+    if 1999 < at {
+        return;
+    }
     let terms = p.terms;
     let lowpass = p.lowpass;
     let d_lowpass = p.d_lowpass;

@@ -47,12 +47,12 @@ module _ (on : Bool) (filtered slewed : Float) where
   unfolding calm
   off h = simp h
 
-  module _ (h : on ≡ true) (size : Float) (e : size ≡ absF filtered) where
-    pub loud : lt size F.one ≡ false → false ≡ calm on filtered slewed
+  module _ (h : on ≡ true) (calms : Bool) (e : calms ≡ lt (absF filtered) F.one) where
+    pub loud : calms ≡ false → false ≡ calm on filtered slewed
     unfolding calm
     loud k = simp (h, sym e, k)
 
-    pub quiet : lt size F.one ≡ true → (turn : Float) → turn ≡ absF slewed → lt turn F.one ≡ calm on filtered slewed
+    pub quiet : calms ≡ true → (turn : Bool) → turn ≡ lt (absF slewed) F.one → turn ≡ calm on filtered slewed
     unfolding calm
     quiet k turn g = simp (h, sym e, k, g)
 

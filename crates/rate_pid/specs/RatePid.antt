@@ -1,11 +1,12 @@
 -- rate_pid.rs: what the controller does, and its calls, which refuse a bad stored slew limit (3).
-use mathlib.Core.Bool.{Bool, true, cond, _&&_}
+use mathlib.Core.Bool.{Bool, true, false, cond, _&&_}
 use lib.Ieee.{Float, binary32, lt, ofBits}
 use Rattle.float.specs.F32 as F
 use Rattle.float.specs.F32.{_+f_, _-f_, _*f_, _/f_}
 use Rattle.float.specs.Float.{absF, clampF}
 use Rattle.refusal.specs.declared.Refusal.{Refusal}
 use Rattle.refusal.specs.declared.Refusal.the-variants as Refusal
+use Rattle.filters.specs.declared.lowpass.Lowpass.{Lowpass}
 use Rattle.filters.specs.declared.lowpass.Lowpassed.{Lowpassed}
 use Rattle.filters.specs.Lowpass.{newLowpass, stepLowpass}
 use Rattle.filters.specs.Lowpass2.{newLowpass2, setDtLowpass2, stepLowpass2}
@@ -25,6 +26,26 @@ ten = ofBits binary32 0x4120_0000
 
 unfoldable pub zeroTerms : PidTerms
 zeroTerms = record { «p_out» = F.zero; «i_out» = F.zero; «dr_out» = F.zero; «dm_out» = F.zero }
+
+-- all zero, its switches off
+unfoldable pub zeroLowpass : Lowpass
+zeroLowpass = record { tau = F.zero; dt = F.zero; y = F.zero; alpha0 = F.zero; alpha1 = F.zero }
+
+unfoldable pub zeroRate : RatePid
+zeroRate = record {
+  kp = F.zero;
+  ki = F.zero;
+  kd = F.zero;
+  integral = F.zero;
+  «prev_meas» = F.zero;
+  «prev_ref» = F.zero;
+  terms = zeroTerms;
+  dt = F.zero;
+  «integral_en» = false;
+  lowpass = zeroLowpass;
+  «d_lowpass» = record { first = zeroLowpass; second = zeroLowpass };
+  «d_slew» = Slew.Off;
+}
 
 -- ---- the parts of an update, whatever the limit: s is the state before it, r the reference, m the measurement, p the prediction
 

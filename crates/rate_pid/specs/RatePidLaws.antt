@@ -15,10 +15,13 @@ use Rattle.float.specs.F32.{_+f_, _-f_}
 use Rattle.float.specs.Float.{absF}
 use Rattle.float.specs.FloatLaws.{Within, clamp-within, lt-nan}
 use Rattle.refusal.specs.declared.Refusal.the-variants as Refusal
-use Rattle.filters.specs.SlewRate.{badLimit}
+use Rattle.filters.specs.SlewRate.{badLimit, slewStep, slewSetDt}
 use Rattle.rate_pid.specs.declared.RatePid.{RatePid}
 use Rattle.rate_pid.specs.declared.Changed.{Changed}
-use Rattle.rate_pid.specs.RatePid.{zeroTerms, slewedOf, filteredOf, measRateOf, calm, calmOf, dampedOf, grownOf, integrated, integratedOf, stepRate, totalOf, newRate, withSlew, limitRate, tsRate, gainsRate, enableRate, resetRate, badRate, changed, updated, told, guarded, callSlew, callSetTs, callSetGains, callEnableIntegral, callResetIntegral, callEnableResetIntegral, callUpdate, callGetTerms}
+use Rattle.rate_pid.specs.declared.slew.Slew.{Slew}
+use Rattle.rate_pid.specs.declared.slew.Slew.the-variants.{Off, On}
+use Rattle.rate_pid.specs.Slew.{badSlew, setDtSlew, stepSlew}
+use Rattle.rate_pid.specs.RatePid.{zeroTerms, zeroRate, slewedOf, filteredOf, measRateOf, calm, calmOf, dampedOf, grownOf, integrated, integratedOf, stepRate, totalOf, newRate, withSlew, limitRate, tsRate, gainsRate, enableRate, resetRate, badRate, changed, updated, told, guarded, callSlew, callSetTs, callSetGains, callEnableIntegral, callResetIntegral, callEnableResetIntegral, callUpdate, callGetTerms}
 
 -- ---- refused, a call leaves the state, and its numbers are +0
 
@@ -98,6 +101,51 @@ update-keeps P s r m p before after = go (badRate s)
     go : (t : Bool) → P (cond t (updated Refusal.Slew F.zero s) (updated Refusal.None (totalOf (stepRate s r m p .terms)) (stepRate s r m p)) .pid)
     go true = before
     go false = after
+
+-- ---- no step makes a good stored limit bad, or a bad one good
+
+slew-step-limit : (d : Slew) (x : Float) → badSlew (stepSlew d x .slew) ≡ badSlew d
+unfolding badSlew stepSlew slewStep
+slew-step-limit Off x = refl
+slew-step-limit (On s) x = refl
+
+slew-dt-limit : (d : Slew) (dt : Float) → badSlew (setDtSlew d dt) ≡ badSlew d
+unfolding badSlew setDtSlew slewSetDt
+slew-dt-limit Off dt = refl
+slew-dt-limit (On s) dt = refl
+
+pub zero-limit : badRate zeroRate ≡ false
+unfolding badRate badSlew zeroRate
+zero-limit = refl
+
+pub new-limit : (kp ki kd tau dt : Float) → badRate (newRate kp ki kd tau dt) ≡ false
+unfolding badRate badSlew newRate
+new-limit kp ki kd tau dt = refl
+
+module _ (s : RatePid) where
+  pub step-limit : (r m p : Float) → badRate (stepRate s r m p) ≡ badRate s
+  unfolding badRate stepRate
+  step-limit r m p = slew-step-limit (s .«d_slew») r
+
+  pub limit-limit : (limit : Float) → badRate (limitRate s limit) ≡ badLimit limit
+  unfolding badRate badSlew limitRate withSlew
+  limit-limit limit = refl
+
+  pub ts-limit : (ts : Float) → badRate (tsRate s ts) ≡ badRate s
+  unfolding badRate tsRate
+  ts-limit ts = slew-dt-limit (s .«d_slew») ts
+
+  pub gains-limit : (kp ki kd : Float) → badRate (gainsRate s kp ki kd) ≡ badRate s
+  unfolding badRate gainsRate
+  gains-limit kp ki kd = refl
+
+  pub enable-limit : (on : Bool) → badRate (enableRate s on) ≡ badRate s
+  unfolding badRate enableRate
+  enable-limit on = refl
+
+  pub reset-limit : badRate (resetRate s) ≡ badRate s
+  unfolding badRate resetRate
+  reset-limit = refl
 
 -- ---- strictly between −1 and 1, as NaN is not
 
@@ -188,6 +236,10 @@ Bounded s = Within F.minusOne F.one (s .integral)
 zero-within : Within F.minusOne F.one F.zero
 unfolding le lt eq neg ofBits
 zero-within = inr (refl, refl)
+
+pub zero-bounded : Bounded zeroRate
+unfolding zeroRate
+zero-bounded = zero-within
 
 pub new-bounded : (kp ki kd tau dt : Float) → Bounded (newRate kp ki kd tau dt)
 unfolding newRate

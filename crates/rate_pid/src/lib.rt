@@ -3,7 +3,10 @@
 // sign or is NaN, and leaves the state as it was.
 ghost use mathlib.Core.Path.{_≡_};
 ghost use mathlib.Core.Bool.{false};
-ghost use Rattle.rate_pid.specs.RatePid.{zeroTerms, totalOf, calm, integrated, badRate, withSlew, newRate, stepRate, callSlew, callSetTs, callSetGains, callEnableIntegral, callResetIntegral, callEnableResetIntegral, callUpdate, callGetTerms};
+ghost use lib.Ieee.{lt};
+ghost use Rattle.float.specs.F32 as F;
+ghost use Rattle.float.specs.Float.{absF};
+ghost use Rattle.rate_pid.specs.RatePid.{zeroTerms, zeroRate, totalOf, calm, integrated, badRate, withSlew, newRate, stepRate, callSlew, callSetTs, callSetGains, callEnableIntegral, callResetIntegral, callEnableResetIntegral, callUpdate, callGetTerms};
 
 mod slew;
 
@@ -67,13 +70,23 @@ struct Integrated {
     lowpass: Lowpass,
 }
 
+// The size of a number is below 1. Two tests say it without the size.
+fn small(x: f32) -> bool
+    ensures { λ r. ⌜ r ≡ lt (absF x) F.one ⌝ }
+{
+    if -1.0 < x {
+        return x < 1.0;
+    }
+    false
+}
+
 // The integral may move. NaN is never calm.
 fn calm(on: bool, filtered: f32, slewed: f32) -> bool
     ensures { λ r. ⌜ r ≡ calm on filtered slewed ⌝ }
 {
     if on {
-        if float::abs(filtered) < 1.0 {
-            return float::abs(slewed) < 1.0;
+        if small(filtered) {
+            return small(slewed);
         }
     }
     false
@@ -186,6 +199,39 @@ impl RatePid {
         self.lowpass = lowpass;
         self.d_lowpass = d_lowpass;
         self.with_slew(d_slew)
+    }
+
+    // The all-zero state with its switches off. Nothing made by `new` is like it: there the integral is on.
+    pub fn zero() -> Self
+        ensures { λ r. ⌜ r ≡ zeroRate ⌝ }
+    {
+        let terms = PidTerms::default();
+        let lowpass = Lowpass {
+            tau: 0.0,
+            dt: 0.0,
+            y: 0.0,
+            alpha0: 0.0,
+            alpha1: 0.0,
+        };
+        let d_lowpass = NthOrderLowpass {
+            first: lowpass,
+            second: lowpass,
+        };
+        let d_slew = Slew::Off;
+        RatePid {
+            kp: 0.0,
+            ki: 0.0,
+            kd: 0.0,
+            integral: 0.0,
+            prev_meas: 0.0,
+            prev_ref: 0.0,
+            terms,
+            dt: 0.0,
+            integral_en: false,
+            lowpass,
+            d_lowpass,
+            d_slew,
+        }
     }
 
     // Nothing given here is refused. The integral is on.

@@ -25,5 +25,8 @@ pub const PID: usize = 69;
 
 pub const RATE_PID: usize = 91;
 
+// Eight lanes of 32 words.
+pub const BANK: usize = 122;
+
 // All of them together.
-pub const ALL: usize = 122;
+pub const ALL: usize = 378;

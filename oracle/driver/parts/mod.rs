@@ -33,6 +33,6 @@ parts! {
     airframe
     angle_pid
     rate_pid
-    ;
     bank
+    ;
 }

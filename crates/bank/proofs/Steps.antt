@@ -1,0 +1,105 @@
+-- What the callees ensure, put together into what the caller ensures. Assumes nothing.
+use mathlib.Core.Path.{_≡_, refl, sym, _∙_}
+use mathlib.Core.Bool.{true, false}
+use mathlib.Core.List.{List, [], _∷_, map}
+use Prim.Native.Nat.{ℕ, zero, suc, _≤_, _<_}
+use native.Mathlib.Nat.{not-suc-le-zero, le-of-suc-le-suc}
+use native.Mathlib.Omega.{arith}
+use borrow.Author.Tests.{lt-ltb, le-ltb}
+use lib.ListN.{getD, length, length-map}
+use lib.Ieee.{Float}
+use Rattle.float.specs.F32 as F
+use Rattle.refusal.specs.declared.Refusal.the-variants as Refusal
+use Rattle.filters.specs.SlewRate.{badLimit}
+use Rattle.rate_pid.specs.declared.PidTerms.{PidTerms}
+use Rattle.rate_pid.specs.declared.RatePid.{RatePid}
+use Rattle.rate_pid.specs.declared.Changed.{Changed}
+use Rattle.rate_pid.specs.declared.Updated.{Updated}
+use Rattle.rate_pid.specs.declared.Terms.{Terms}
+use Rattle.rate_pid.specs.RatePid.{zeroTerms, newRate, badRate, callSlew, callUpdate, callGetTerms}
+use Rattle.bank.specs.declared.lane.Lane.{Lane}
+use Rattle.bank.specs.declared.lane.SlewLimit.{SlewLimit}
+use Rattle.bank.specs.declared.lane.SlewLimit.the-variants.{Off, At}
+use Rattle.bank.specs.declared.lane.Op.{Op}
+use Rattle.bank.specs.declared.lane.Op.the-variants.{Open, Close, Update, ReadTerms}
+use Rattle.bank.specs.declared.lane.Stepped.{Stepped}
+use Rattle.bank.specs.declared.Bank.{Bank}
+use Rattle.bank.specs.Lane.{closedLane, openLane, answered, stepped, told, heard, running, whenOpen, whenGood, opened, laneStep}
+use Rattle.bank.specs.Bank.{put, banked, bankStep}
+
+-- ---- a lane's calls
+
+module _ (l : Lane) where
+  -- 9
+  pub shut : l .«open» ≡ false → (r next : Stepped) → r ≡ told Refusal.Closed l → r ≡ whenOpen l next
+  unfolding whenOpen
+  shut o r next e = simp (o, e)
+
+  module _ (o : l .«open» ≡ true) (r : Stepped) where
+    pub setting : (next call : Changed) → next ≡ call → r ≡ heard next → r ≡ whenOpen l (heard call)
+    unfolding whenOpen
+    setting next call e1 e2 = simp (o, e2, e1)
+
+    pub closed-bad : badRate (l .pid) ≡ true → r ≡ told Refusal.Slew l → r ≡ laneStep l Close
+    unfolding laneStep whenOpen whenGood
+    closed-bad b e = simp (o, b, e)
+
+    pub closed-good : badRate (l .pid) ≡ false → (made : Lane) → made ≡ closedLane → r ≡ told Refusal.None made → r ≡ laneStep l Close
+    unfolding laneStep whenOpen whenGood
+    closed-good b made e1 e2 = simp (o, b, e2, e1)
+
+  module _ (o : l .«open» ≡ true) where
+    pub updated : (r m p : Float) (next : Updated) (t : PidTerms) → next ≡ callUpdate (l .pid) r m p → t ≡ zeroTerms
+        → stepped (answered (next .answer .refusal) (next .answer .y) t) (openLane (next .pid)) ≡ laneStep l (Update r m p)
+    unfolding laneStep whenOpen
+    updated r m p next t e1 e2 = simp (o, e2, e1)
+
+    pub read-terms : (t : Terms) → t ≡ callGetTerms (l .pid) → stepped (answered (t .refusal) F.zero (t .terms)) l ≡ laneStep l ReadTerms
+    unfolding laneStep whenOpen
+    read-terms t e = simp (o, e)
+
+  module _ (kp ki kd tau dt : Float) (slew : SlewLimit) (r : Stepped) where
+    pub open-open : l .«open» ≡ true → r ≡ told Refusal.Open l → r ≡ laneStep l (Open kp ki kd tau dt slew)
+    unfolding laneStep
+    open-open o e = simp (o, e)
+
+    module _ (o : l .«open» ≡ false) where
+      pub open-bad : badRate (l .pid) ≡ true → r ≡ told Refusal.Slew l → r ≡ laneStep l (Open kp ki kd tau dt slew)
+      unfolding laneStep whenGood
+      open-bad b e = simp (o, b, e)
+
+      module _ (b : badRate (l .pid) ≡ false) (made : RatePid) (e : made ≡ newRate kp ki kd tau dt) where
+        pub open-plain : slew ≡ Off → r ≡ running made → r ≡ laneStep l (Open kp ki kd tau dt slew)
+        unfolding laneStep whenGood opened
+        open-plain w k = simp (o, b, w, k, e)
+
+        module _ (limit : Float) (w : slew ≡ At limit) where
+          pub open-limit : badLimit limit ≡ true → r ≡ told Refusal.Slew l → r ≡ laneStep l (Open kp ki kd tau dt slew)
+          unfolding laneStep whenGood opened
+          open-limit h k = simp (o, b, w, h, k)
+
+          pub open-slewed : badLimit limit ≡ false → (next : Changed) → next ≡ callSlew made limit → r ≡ heard next
+              → r ≡ laneStep l (Open kp ki kd tau dt slew)
+          unfolding laneStep whenGood opened
+          open-slewed h next k j = simp (o, b, w, h, j, k, e)
+
+-- ---- the bank's
+
+-- within a list, what would stand past its end does not matter
+pub any : {A : Type 0} (l : List A) (i : ℕ) (d e : A) → i < length l → getD l i d ≡ getD l i e
+any [] i d e h = absurd (not-suc-le-zero h)
+any (x ∷ l) zero d e h = refl
+any (x ∷ l) (suc i) d e h = any l i d e (le-of-suc-le-suc h)
+
+pub as-long : {A B : Type 0} (f : A → B) (l : List A) → length (map f l) ≡ 8 → length l ≡ 8
+as-long f l h = sym (length-map l f) ∙ h
+
+module _ (b : Bank) (i : ℕ) (op : Op) where
+  pub above : 7 < i → (t : PidTerms) → t ≡ zeroTerms → banked (answered Refusal.Lane F.zero t) b ≡ bankStep b i op
+  unfolding bankStep
+  above h t e = simp (lt-ltb 7 i h, e)
+
+  pub placing : i ≤ 7 → length (b .lanes) ≡ 8 → (d : Lane) (next : Stepped) → next ≡ laneStep (getD (b .lanes) i d) op
+      → banked (next .answer) (put b i (next .lane)) ≡ bankStep b i op
+  unfolding bankStep
+  placing h n d next e = simp (le-ltb 7 i h, e, any (b .lanes) i d closedLane (omega (arith, n)))

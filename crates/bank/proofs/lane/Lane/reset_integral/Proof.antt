@@ -1,0 +1,26 @@
+use Rattle.bank.specs.Lane.{laneStep}
+use Rattle.bank.proofs.Steps.{shut, setting}
+use borrow.Author.Needs.{needs}
+use Rattle.bank.proofs.lane.Lane.reset_integral.Statement.{statement}
+use Rattle.bank.proofs.lane.Lane.reset_integral.Tie as tie
+
+reset-integral-requires : tie.Need-reset-integral-requires
+reset-integral-requires c κs = search needs
+
+heard-requires : tie.Need-heard-requires
+heard-requires c κs = search needs
+
+returns : tie.Need-returns
+unfolding laneStep
+returns c = setting _ (c .before .before .before .if1 .taken) _ _ _ (c .before .reset-integral .ensures) (c .heard .ensures)
+
+told-requires : tie.Need-told-requires
+told-requires c κs = search needs
+
+returns-2 : tie.Need-returns-2
+unfolding laneStep
+returns-2 c = shut _ (c .before .if1 .left) _ _ (c .told .ensures)
+
+pub reset-integral-spec : {M : Type 1} → statement M
+reset-integral-spec =
+    tie.close (tie.spec reset-integral-requires heard-requires returns told-requires returns-2)

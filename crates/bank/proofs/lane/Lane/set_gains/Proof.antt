@@ -1,0 +1,26 @@
+use Rattle.bank.specs.Lane.{laneStep}
+use Rattle.bank.proofs.Steps.{shut, setting}
+use borrow.Author.Needs.{needs}
+use Rattle.bank.proofs.lane.Lane.set_gains.Statement.{statement}
+use Rattle.bank.proofs.lane.Lane.set_gains.Tie as tie
+
+set-gains-requires : tie.Need-set-gains-requires
+set-gains-requires c κs = search needs
+
+heard-requires : tie.Need-heard-requires
+heard-requires c κs = search needs
+
+returns : tie.Need-returns
+unfolding laneStep
+returns c = setting _ (c .before .before .before .if1 .taken) _ _ _ (c .before .set-gains .ensures) (c .heard .ensures)
+
+told-requires : tie.Need-told-requires
+told-requires c κs = search needs
+
+returns-2 : tie.Need-returns-2
+unfolding laneStep
+returns-2 c = shut _ (c .before .if1 .left) _ _ (c .told .ensures)
+
+pub set-gains-spec : {M : Type 1} → statement M
+set-gains-spec =
+    tie.close (tie.spec set-gains-requires heard-requires returns told-requires returns-2)

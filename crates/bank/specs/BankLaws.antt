@@ -1,0 +1,95 @@
+-- Laws of a call on the bank, for every bank of eight lanes, one built by hand too. Assumes nothing.
+use mathlib.Core.Path.{_≡_, refl, ap}
+use mathlib.Core.Bool.{Bool, true, false, cond}
+use mathlib.Core.List.{List}
+use Prim.Native.Nat.{ℕ, _≤_, _<_}
+use native.Mathlib.Omega.{arith}
+use borrow.Author.Tests.{lt-ltb, le-ltb}
+use lib.Dec.{ltb}
+use lib.Ieee.{Float}
+use lib.ListN.{length, length-set, getD-replicate}
+use lib.Seq.{getD-set-same, getD-set-other, set-getD}
+use Rattle.refusal.specs.declared.Refusal.{Refusal}
+use Rattle.refusal.specs.declared.Refusal.the-variants as Refusal
+use Rattle.rate_pid.specs.RatePidLaws.{Frozen, Stood}
+use Rattle.bank.specs.declared.lane.Lane.{Lane}
+use Rattle.bank.specs.declared.lane.Op.{Op}
+use Rattle.bank.specs.declared.lane.Op.the-variants.{Update}
+use Rattle.bank.specs.declared.Bank.{Bank}
+use Rattle.bank.specs.Lane.{closedLane, plain, laneStep}
+use Rattle.bank.specs.LaneLaws.{laneRefusal, step-refusal, step-leaves, lane-frozen}
+use Rattle.bank.specs.Bank.{freshBank, laneAt, banked, placed, bankStep}
+
+-- as every bank of the code has
+abbrev pub Eight : Bank → Type 0
+Eight b = length (b .lanes) ≡ 8
+
+pub fresh-eight : Eight freshBank
+unfolding freshBank
+fresh-eight = refl
+
+pub fresh-closed : (i : ℕ) → i ≤ 7 → laneAt freshBank i ≡ closedLane
+unfolding freshBank
+fresh-closed i h = getD-replicate 8 i closedLane closedLane (omega arith)
+
+-- 8 first, then the named lane's refusals
+unfoldable pub bankRefusal : Bank → ℕ → Op → Refusal
+bankRefusal b i op = cond (ltb 7 i) Refusal.Lane (laneRefusal (laneAt b i) op)
+
+module _ (b : Bank) (i : ℕ) (op : Op) where
+  -- ---- one call: 8 above lane 7; else the lane's own step at that lane, and nothing else changes
+
+  pub above : 7 < i → bankStep b i op ≡ banked (plain Refusal.Lane) b
+  unfolding bankStep
+  above h = simp (lt-ltb 7 i h)
+
+  pub within : i ≤ 7 → bankStep b i op ≡ placed b i (laneStep (laneAt b i) op)
+  unfolding bankStep
+  within h = simp (le-ltb 7 i h)
+
+  pub step-eight : Eight b → Eight (bankStep b i op .bank)
+  unfolding bankStep
+  step-eight n = go (ltb 7 i) refl
+    where
+      go : (t : Bool) → ltb 7 i ≡ t → Eight (bankStep b i op .bank)
+      go true e = simp e n
+      go false e = simp (e, length-set) n
+
+  pub named : i ≤ 7 → Eight b → (bankStep b i op .answer ≡ laneStep (laneAt b i) op .answer) × (laneAt (bankStep b i op .bank) i ≡ laneStep (laneAt b i) op .lane)
+  named h n = (simp (within h), simp (within h) (getD-set-same (b .lanes) i _ _ (omega (arith, n))))
+
+  pub others : (k : ℕ) → (k ≡ i → ⊥) → laneAt (bankStep b i op .bank) k ≡ laneAt b k
+  unfolding bankStep
+  others k h = go (ltb 7 i) refl
+    where
+      go : (t : Bool) → ltb 7 i ≡ t → laneAt (bankStep b i op .bank) k ≡ laneAt b k
+      go true e = simp e
+      go false e = simp e (getD-set-other (b .lanes) i k _ _ h)
+
+  -- ---- which refusal it meets
+
+  pub refusal-is : bankStep b i op .answer .refusal ≡ bankRefusal b i op
+  unfolding bankStep bankRefusal
+  refusal-is = go (ltb 7 i)
+    where
+      go : (t : Bool) → cond t (banked (plain Refusal.Lane) b) (placed b i (laneStep (laneAt b i) op)) .answer .refusal ≡ cond t Refusal.Lane (laneRefusal (laneAt b i) op)
+      go true = refl
+      go false = step-refusal (laneAt b i) op
+
+  -- ---- a refused call leaves the bank, and its numbers are +0
+
+  pub refused-leaves : (bankStep b i op .answer .refusal ≡ Refusal.None → ⊥) → (bankStep b i op .bank ≡ b) × (bankStep b i op .answer ≡ plain (bankStep b i op .answer .refusal))
+  unfolding bankStep
+  refused-leaves = go (ltb 7 i) refl
+    where
+      go : (t : Bool) → ltb 7 i ≡ t → (bankStep b i op .answer .refusal ≡ Refusal.None → ⊥) → (bankStep b i op .bank ≡ b) × (bankStep b i op .answer ≡ plain (bankStep b i op .answer .refusal))
+      go true e k = (simp e, simp e)
+      go false e k =
+          let left = step-leaves (laneAt b i) op in
+          let k′ : laneStep (laneAt b i) op .answer .refusal ≡ Refusal.None → ⊥ = λ h. k (simp e h) in
+          (simp (e, left .lane k′) (ap (λ (l : List Lane). record { lanes = l }) (set-getD (b .lanes) i closedLane)), simp e (left .answer k′))
+
+-- ---- a frozen update leaves the lane's integral and damping filter
+
+pub frozen : (b : Bank) (i : ℕ) (r m p : Float) → i ≤ 7 → Eight b → Frozen (laneAt b i .pid) r m → Stood (laneAt b i .pid) (laneAt (bankStep b i (Update r m p) .bank) i .pid)
+frozen b i r m p h n f = simp (named b i (Update r m p) h n .1) (lane-frozen (laneAt b i) r m p f)

@@ -1,0 +1,86 @@
+-- One lane: what each call answers and leaves, in document 01's order: 9 or 10, then 3 for the stored limit, then 3 for the
+-- given one. A refused call leaves the lane, and its numbers are +0.
+use mathlib.Core.Bool.{Bool, true, false, cond, not, _&&_}
+use lib.Ieee.{Float}
+use Rattle.float.specs.F32 as F
+use Rattle.refusal.specs.declared.Refusal.{Refusal}
+use Rattle.refusal.specs.declared.Refusal.the-variants as Refusal
+use Rattle.filters.specs.SlewRate.{badLimit}
+use Rattle.rate_pid.specs.declared.PidTerms.{PidTerms}
+use Rattle.rate_pid.specs.declared.RatePid.{RatePid}
+use Rattle.rate_pid.specs.declared.Changed.{Changed}
+use Rattle.rate_pid.specs.declared.Updated.{Updated}
+use Rattle.rate_pid.specs.declared.Terms.{Terms}
+use Rattle.rate_pid.specs.RatePid.{zeroTerms, zeroRate, newRate, badRate, changed, callSlew, callUpdate, callSetTs, callSetGains, callEnableIntegral, callResetIntegral, callGetTerms}
+use Rattle.bank.specs.declared.lane.Lane.{Lane}
+use Rattle.bank.specs.declared.lane.SlewLimit.{SlewLimit}
+use Rattle.bank.specs.declared.lane.SlewLimit.the-variants.{Off, At}
+use Rattle.bank.specs.declared.lane.Op.{Op}
+use Rattle.bank.specs.declared.lane.Op.the-variants.{Open, Close, Update, SetTs, SetGains, EnableIntegral, ResetIntegral, ReadTerms}
+use Rattle.bank.specs.declared.lane.Answer.{Answer}
+use Rattle.bank.specs.declared.lane.Stepped.{Stepped}
+
+-- ---- lanes and answers
+
+unfoldable pub closedLane : Lane
+closedLane = record { «open» = false; pid = zeroRate }
+
+abbrev pub openLane : RatePid → Lane
+openLane s = record { «open» = true; pid = s }
+
+abbrev pub answered : Refusal → Float → PidTerms → Answer
+answered why y t = record { refusal = why; y = y; terms = t }
+
+-- an answer without numbers
+abbrev pub plain : Refusal → Answer
+plain why = answered why F.zero zeroTerms
+
+abbrev pub stepped : Answer → Lane → Stepped
+stepped a l = record { answer = a; lane = l }
+
+-- a lane left as it is, and an answer without numbers
+abbrev pub told : Refusal → Lane → Stepped
+told why l = stepped (plain why) l
+
+-- ---- a controller's own call, made on an open lane
+
+abbrev pub heard : Changed → Stepped
+heard next = stepped (plain (next .refusal)) (openLane (next .pid))
+
+abbrev pub running : RatePid → Stepped
+running s = heard (changed Refusal.None s)
+
+abbrev pub valued : Updated → Stepped
+valued next = stepped (answered (next .answer .refusal) (next .answer .y) zeroTerms) (openLane (next .pid))
+
+abbrev pub read : Lane → Terms → Stepped
+read l t = stepped (answered (t .refusal) F.zero (t .terms)) l
+
+-- ---- the step
+
+-- an update meets no refusal
+unfoldable pub ready : Lane → Bool
+ready l = l .«open» && not (badRate (l .pid))
+
+-- 9 comes before anything else
+unfoldable pub whenOpen : Lane → Stepped → Stepped
+whenOpen l next = cond (l .«open») next (told Refusal.Closed l)
+
+-- 3 for the stored limit
+unfoldable pub whenGood : Lane → Stepped → Stepped
+whenGood l next = cond (badRate (l .pid)) (told Refusal.Slew l) next
+
+-- a new controller, with a limiter if wanted: 3 for the given limit
+unfoldable pub opened : Lane → RatePid → SlewLimit → Stepped
+opened l s Off = running s
+opened l s (At limit) = cond (badLimit limit) (told Refusal.Slew l) (heard (callSlew s limit))
+
+unfoldable pub laneStep : Lane → Op → Stepped
+laneStep l (Open kp ki kd tau dt slew) = cond (l .«open») (told Refusal.Open l) (whenGood l (opened l (newRate kp ki kd tau dt) slew))
+laneStep l Close = whenOpen l (whenGood l (told Refusal.None closedLane))
+laneStep l (Update r m p) = whenOpen l (valued (callUpdate (l .pid) r m p))
+laneStep l (SetTs ts) = whenOpen l (heard (callSetTs (l .pid) ts))
+laneStep l (SetGains kp ki kd) = whenOpen l (heard (callSetGains (l .pid) kp ki kd))
+laneStep l (EnableIntegral on) = whenOpen l (heard (callEnableIntegral (l .pid) on))
+laneStep l ResetIntegral = whenOpen l (heard (callResetIntegral (l .pid)))
+laneStep l ReadTerms = whenOpen l (read l (callGetTerms (l .pid)))

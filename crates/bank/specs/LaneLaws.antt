@@ -1,0 +1,219 @@
+-- Laws of a lane's step, for every lane and every call: the refusal that it gives, what a refused call leaves, the
+-- integral's bound, and the frozen update. Assumes nothing.
+use mathlib.Core.Path.{_≡_, refl, sym, ap}
+use mathlib.Core.Bool.{Bool, true, false, cond, true≢false}
+use lib.Ieee.{Float}
+use Rattle.float.specs.F32 as F
+use Rattle.refusal.specs.declared.Refusal.{Refusal}
+use Rattle.refusal.specs.declared.Refusal.the-variants as Refusal
+use Rattle.filters.specs.SlewRate.{badLimit}
+use Rattle.rate_pid.specs.declared.RatePid.{RatePid}
+use Rattle.rate_pid.specs.declared.Changed.{Changed}
+use Rattle.rate_pid.specs.declared.Updated.{Updated}
+use Rattle.rate_pid.specs.declared.Terms.{Terms}
+use Rattle.rate_pid.specs.RatePid.{newRate, badRate, changed, guarded, callSlew, callUpdate, callSetTs, callSetGains, callEnableIntegral, callResetIntegral, callGetTerms}
+use Rattle.rate_pid.specs.RatePidLaws.{update-refused, new-limit, slew-accepted, Bounded, Frozen, Stood, update-frozen, zero-bounded, new-bounded, slew-bounded, update-bounded, set-ts-bounded, set-gains-bounded, enable-integral-bounded, reset-integral-bounded}
+use Rattle.bank.specs.declared.lane.Lane.{Lane}
+use Rattle.bank.specs.declared.lane.SlewLimit.{SlewLimit}
+use Rattle.bank.specs.declared.lane.SlewLimit.the-variants.{Off, At}
+use Rattle.bank.specs.declared.lane.Op.{Op}
+use Rattle.bank.specs.declared.lane.Op.the-variants.{Open, Close, Update, SetTs, SetGains, EnableIntegral, ResetIntegral, ReadTerms}
+use Rattle.bank.specs.declared.lane.Stepped.{Stepped}
+use Rattle.bank.specs.Lane.{closedLane, openLane, ready, plain, told, heard, valued, read, running, whenOpen, whenGood, opened, laneStep}
+
+-- what holds at both ends of a test holds of what it picks
+when-open-has : (P : Stepped → Type 0) (l : Lane) (next : Stepped) → (l .«open» ≡ true → P next) → P (told Refusal.Closed l) → P (whenOpen l next)
+unfolding whenOpen
+when-open-has P l next h g = go (l .«open») refl
+  where
+    go : (t : Bool) → l .«open» ≡ t → P (cond t next (told Refusal.Closed l))
+    go true e = h e
+    go false e = g
+
+when-good-has : (P : Stepped → Type 0) (l : Lane) (next : Stepped) → P next → P (told Refusal.Slew l) → P (whenGood l next)
+unfolding whenGood
+when-good-has P l next h g = go (badRate (l .pid))
+  where
+    go : (t : Bool) → P (cond t (told Refusal.Slew l) next)
+    go true = g
+    go false = h
+
+opened-has : (P : Stepped → Type 0) (l : Lane) (s : RatePid) (slew : SlewLimit)
+    → P (running s) → ((limit : Float) → badLimit limit ≡ false → P (heard (callSlew s limit))) → P (told Refusal.Slew l) → P (opened l s slew)
+unfolding opened
+opened-has P l s Off h f g = h
+opened-has P l s (At limit) h f g = go (badLimit limit) refl
+  where
+    go : (t : Bool) → badLimit limit ≡ t → P (cond t (told Refusal.Slew l) (heard (callSlew s limit)))
+    go true e = g
+    go false e = f limit e
+
+open-has : (P : Stepped → Type 0) (l : Lane) (next : Stepped) → P next → P (told Refusal.Open l) → P (told Refusal.Slew l) → P (cond (l .«open») (told Refusal.Open l) (whenGood l next))
+open-has P l next h f g = go (l .«open»)
+  where
+    go : (t : Bool) → P (cond t (told Refusal.Open l) (whenGood l next))
+    go true = f
+    go false = when-good-has P l next h g
+
+-- ---- which refusal a call meets: 9 or 10, then 3 for the stored limit, then 3 for the given one
+
+abbrev pub limitRefusal : SlewLimit → Refusal
+limitRefusal Off = Refusal.None
+limitRefusal (At limit) = cond (badLimit limit) Refusal.Slew Refusal.None
+
+-- 3 for the stored limit, or what the call itself meets
+abbrev pub storedRefusal : Lane → Refusal → Refusal
+storedRefusal l own = cond (badRate (l .pid)) Refusal.Slew own
+
+-- any other call than `open`
+abbrev pub openRefusal : Lane → Refusal
+openRefusal l = cond (l .«open») (storedRefusal l Refusal.None) Refusal.Closed
+
+unfoldable pub laneRefusal : Lane → Op → Refusal
+laneRefusal l (Open kp ki kd tau dt slew) = cond (l .«open») Refusal.Open (storedRefusal l (limitRefusal slew))
+laneRefusal l Close = openRefusal l
+laneRefusal l (Update r m p) = openRefusal l
+laneRefusal l (SetTs ts) = openRefusal l
+laneRefusal l (SetGains kp ki kd) = openRefusal l
+laneRefusal l (EnableIntegral on) = openRefusal l
+laneRefusal l ResetIntegral = openRefusal l
+laneRefusal l ReadTerms = openRefusal l
+
+opened-refusal : (l : Lane) (s : RatePid) (slew : SlewLimit) → badRate s ≡ false → opened l s slew .answer .refusal ≡ limitRefusal slew
+unfolding opened
+opened-refusal l s Off g = refl
+opened-refusal l s (At limit) g = go (badLimit limit) refl
+  where
+    go : (t : Bool) → badLimit limit ≡ t → opened l s (At limit) .answer .refusal ≡ limitRefusal (At limit)
+    go true e = simp e
+    go false e = simp (e, slew-accepted s g limit e)
+
+-- a test picks the refusals as it picks the answers
+picks : (t : Bool) (a b : Stepped) → cond t a b .answer .refusal ≡ cond t (a .answer .refusal) (b .answer .refusal)
+picks true a b = refl
+picks false a b = refl
+
+picks-changed : (t : Bool) (a b : Changed) → cond t a b .refusal ≡ cond t (a .refusal) (b .refusal)
+picks-changed true a b = refl
+picks-changed false a b = refl
+
+picks-updated : (t : Bool) (a b : Updated) → cond t a b .answer .refusal ≡ cond t (a .answer .refusal) (b .answer .refusal)
+picks-updated true a b = refl
+picks-updated false a b = refl
+
+picks-terms : (t : Bool) (a b : Terms) → cond t a b .refusal ≡ cond t (a .refusal) (b .refusal)
+picks-terms true a b = refl
+picks-terms false a b = refl
+
+pub step-refusal : (l : Lane) (op : Op) → laneStep l op .answer .refusal ≡ laneRefusal l op
+unfolding laneStep laneRefusal whenOpen whenGood callSetTs callSetGains callEnableIntegral callResetIntegral callUpdate callGetTerms guarded
+step-refusal l (Open kp ki kd tau dt slew) = simp (picks, opened-refusal l (newRate kp ki kd tau dt) slew (new-limit kp ki kd tau dt))
+step-refusal l Close = simp picks
+step-refusal l (Update r m p) = simp (picks, picks-updated)
+step-refusal l (SetTs ts) = simp (picks, picks-changed)
+step-refusal l (SetGains kp ki kd) = simp (picks, picks-changed)
+step-refusal l (EnableIntegral on) = simp (picks, picks-changed)
+step-refusal l ResetIntegral = simp (picks, picks-changed)
+step-refusal l ReadTerms = simp (picks, picks-terms)
+
+-- ---- a refused call leaves the lane, and its numbers are +0
+
+-- nothing is refused; or the lane is as it was, and the answer has no numbers
+pub record Leaves (l : Lane) (next : Stepped) : Type 0 where
+  pub lane : (next .answer .refusal ≡ Refusal.None → ⊥) → next .lane ≡ l
+  pub answer : (next .answer .refusal ≡ Refusal.None → ⊥) → next .answer ≡ plain (next .answer .refusal)
+
+told-leaves : (l : Lane) (why : Refusal) → Leaves l (told why l)
+told-leaves l why = record { lane = λ k. refl; answer = λ k. refl }
+
+-- where nothing is refused, nothing is asked
+passed : (l : Lane) (next : Stepped) → next .answer .refusal ≡ Refusal.None → Leaves l next
+passed l next e = record { lane = λ k. absurd (k e); answer = λ k. absurd (k e) }
+
+module _ (l : Lane) (o : l .«open» ≡ true) where
+  -- an open lane is that of its controller
+  is-open : openLane (l .pid) ≡ l
+  is-open = ap (λ (t : Bool). record { «open» = t; pid = l .pid }) (sym o)
+
+  -- a setter of the controller, which its stored limit alone refuses
+  guarded-leaves : (s : RatePid) → Leaves l (heard (guarded (l .pid) (changed Refusal.None s)))
+  unfolding guarded
+  guarded-leaves s = go (badRate (l .pid))
+    where
+      go : (t : Bool) → Leaves l (heard (cond t (changed Refusal.Slew (l .pid)) (changed Refusal.None s)))
+      go true = record { lane = λ k. is-open; answer = λ k. refl }
+      go false = passed l _ refl
+
+  update-leaves : (r m p : Float) → Leaves l (valued (callUpdate (l .pid) r m p))
+  unfolding callUpdate
+  update-leaves r m p = go (badRate (l .pid)) refl
+    where
+      go : (t : Bool) → badRate (l .pid) ≡ t → Leaves l (valued (callUpdate (l .pid) r m p))
+      go true e = record { lane = λ k. simp e is-open; answer = λ k. simp e }
+      go false e = passed l _ (simp e)
+
+terms-leave : (l : Lane) → Leaves l (read l (callGetTerms (l .pid)))
+unfolding callGetTerms
+terms-leave l = go (badRate (l .pid)) refl
+  where
+    go : (t : Bool) → badRate (l .pid) ≡ t → Leaves l (read l (callGetTerms (l .pid)))
+    go true e = record { lane = λ k. refl; answer = λ k. simp e }
+    go false e = passed l _ (simp e)
+
+pub step-leaves : (l : Lane) (op : Op) → Leaves l (laneStep l op)
+unfolding laneStep callSetTs callSetGains callEnableIntegral callResetIntegral
+step-leaves l (Open kp ki kd tau dt slew) =
+    open-has (Leaves l) l _
+    (opened-has (Leaves l) l (newRate kp ki kd tau dt) slew (passed l _ refl)
+    (λ limit g. passed l _ (ap (λ (c : Changed). c .refusal) (slew-accepted _ (new-limit kp ki kd tau dt) limit g)))
+    (told-leaves l _))
+    (told-leaves l _) (told-leaves l _)
+step-leaves l Close = when-open-has (Leaves l) l _ (λ o. when-good-has (Leaves l) l _ (passed l _ refl) (told-leaves l _)) (told-leaves l _)
+step-leaves l (Update r m p) = when-open-has (Leaves l) l _ (λ o. update-leaves l o r m p) (told-leaves l _)
+step-leaves l (SetTs ts) = when-open-has (Leaves l) l _ (λ o. guarded-leaves l o _) (told-leaves l _)
+step-leaves l (SetGains kp ki kd) = when-open-has (Leaves l) l _ (λ o. guarded-leaves l o _) (told-leaves l _)
+step-leaves l (EnableIntegral on) = when-open-has (Leaves l) l _ (λ o. guarded-leaves l o _) (told-leaves l _)
+step-leaves l ResetIntegral = when-open-has (Leaves l) l _ (λ o. guarded-leaves l o _) (told-leaves l _)
+step-leaves l ReadTerms = when-open-has (Leaves l) l _ (λ o. terms-leave l) (told-leaves l _)
+
+-- ---- the integral is NaN or from −1 to 1 in a closed lane, and every call keeps it so
+
+abbrev pub BoundedLane : Lane → Type 0
+BoundedLane l = Bounded (l .pid)
+
+abbrev Keeps : Stepped → Type 0
+Keeps next = BoundedLane (next .lane)
+
+pub closed-bounded : BoundedLane closedLane
+unfolding closedLane
+closed-bounded = zero-bounded
+
+pub step-bounded : (l : Lane) (op : Op) → BoundedLane l → BoundedLane (laneStep l op .lane)
+unfolding laneStep
+step-bounded l (Open kp ki kd tau dt slew) b =
+    let made = new-bounded kp ki kd tau dt in
+    open-has Keeps l _ (opened-has Keeps l _ slew made (λ limit g. slew-bounded _ made limit) b) b b
+step-bounded l Close b = when-open-has Keeps l _ (λ o. when-good-has Keeps l _ closed-bounded b) b
+step-bounded l (Update r m p) b = when-open-has Keeps l _ (λ o. update-bounded _ r m p b) b
+step-bounded l (SetTs ts) b = when-open-has Keeps l _ (λ o. set-ts-bounded _ b ts) b
+step-bounded l (SetGains kp ki kd) b = when-open-has Keeps l _ (λ o. set-gains-bounded _ b kp ki kd) b
+step-bounded l (EnableIntegral on) b = when-open-has Keeps l _ (λ o. enable-integral-bounded _ b on) b
+step-bounded l ResetIntegral b = when-open-has Keeps l _ (λ o. reset-integral-bounded _ b) b
+step-bounded l ReadTerms b = when-open-has Keeps l _ (λ o. b) b
+
+-- ---- a frozen update leaves the integral and the damping filter
+
+pub lane-frozen : (l : Lane) (r m p : Float) → Frozen (l .pid) r m → Stood (l .pid) (laneStep l (Update r m p) .lane .pid)
+unfolding laneStep
+lane-frozen l r m p h = when-open-has (λ (next : Stepped). Stood (l .pid) (next .lane .pid)) l _ (λ o. update-frozen (l .pid) r m p h) (refl, refl)
+
+-- ---- an update of a lane that is not ready leaves it, and its value is +0
+
+pub idle : (l : Lane) (r m p : Float) → ready l ≡ false → (laneStep l (Update r m p) .lane ≡ l) × (laneStep l (Update r m p) .answer .y ≡ F.zero)
+unfolding laneStep whenOpen ready
+idle l r m p h = go (l .«open») (badRate (l .pid)) refl refl
+  where
+    go : (s t : Bool) → l .«open» ≡ s → badRate (l .pid) ≡ t → (laneStep l (Update r m p) .lane ≡ l) × (laneStep l (Update r m p) .answer .y ≡ F.zero)
+    go false t o b = (simp o, simp o)
+    go true true o b = (simp (o, update-refused (l .pid) b) (is-open l o), simp (o, update-refused (l .pid) b))
+    go true false o b = absurd (true≢false (simp (o, b) at h))

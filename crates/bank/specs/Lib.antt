@@ -1,0 +1,10 @@
+pub mod Lane
+pub mod LaneLaws
+pub mod Single
+pub mod SingleLaws
+pub mod Bank
+pub mod BankLaws
+pub mod Runs
+pub mod RunLaws
+pub mod Rows
+pub mod RowsLaws

@@ -1,0 +1,62 @@
+-- One controller by itself, document 01's: none, or a rate controller that is stepped and set by its own definitions. It
+-- knows nothing of lanes and stores nothing while there is none.
+use mathlib.Core.Bool.{cond}
+use mathlib.Core.List.{List, [], _∷_}
+use Rattle.float.specs.F32 as F
+use Rattle.refusal.specs.declared.Refusal.{Refusal}
+use Rattle.refusal.specs.declared.Refusal.the-variants as Refusal
+use Rattle.filters.specs.SlewRate.{badLimit}
+use Rattle.rate_pid.specs.declared.RatePid.{RatePid}
+use Rattle.rate_pid.specs.RatePid.{zeroTerms, stepRate, totalOf, newRate, limitRate, tsRate, gainsRate, enableRate, resetRate}
+use Rattle.bank.specs.declared.lane.SlewLimit.{SlewLimit}
+use Rattle.bank.specs.declared.lane.SlewLimit.the-variants.{Off, At}
+use Rattle.bank.specs.declared.lane.Op.{Op}
+use Rattle.bank.specs.declared.lane.Op.the-variants.{Open, Close, Update, SetTs, SetGains, EnableIntegral, ResetIntegral, ReadTerms}
+use Rattle.bank.specs.declared.lane.Answer.{Answer}
+use Rattle.bank.specs.Lane.{answered, plain}
+
+pub data Single : Type 0 where
+  none : Single
+  one : RatePid → Single
+
+-- what it answers, and what there is afterwards
+pub record Next : Type 0 where
+  pub answer : Answer
+  pub single : Single
+
+abbrev pub says : Refusal → Single → Next
+says why c = record { answer = plain why; single = c }
+
+unfoldable pub newSingle : RatePid → SlewLimit → Next
+newSingle s Off = says Refusal.None (one s)
+newSingle s (At limit) = cond (badLimit limit) (says Refusal.Slew none) (says Refusal.None (one (limitRate s limit)))
+
+unfoldable pub singleStep : Single → Op → Next
+singleStep none (Open kp ki kd tau dt slew) = newSingle (newRate kp ki kd tau dt) slew
+singleStep none Close = says Refusal.Closed none
+singleStep none (Update r m p) = says Refusal.Closed none
+singleStep none (SetTs ts) = says Refusal.Closed none
+singleStep none (SetGains kp ki kd) = says Refusal.Closed none
+singleStep none (EnableIntegral on) = says Refusal.Closed none
+singleStep none ResetIntegral = says Refusal.Closed none
+singleStep none ReadTerms = says Refusal.Closed none
+singleStep (one s) (Open kp ki kd tau dt slew) = says Refusal.Open (one s)
+singleStep (one s) Close = says Refusal.None none
+singleStep (one s) (Update r m p) =
+    let next = stepRate s r m p in
+    record { answer = answered Refusal.None (totalOf (next .terms)) zeroTerms; single = one next }
+singleStep (one s) (SetTs ts) = says Refusal.None (one (tsRate s ts))
+singleStep (one s) (SetGains kp ki kd) = says Refusal.None (one (gainsRate s kp ki kd))
+singleStep (one s) (EnableIntegral on) = says Refusal.None (one (enableRate s on))
+singleStep (one s) ResetIntegral = says Refusal.None (one (resetRate s))
+singleStep (one s) ReadTerms = record { answer = answered Refusal.None F.zero (s .terms); single = one s }
+
+-- its answers to a list of calls
+unfoldable pub singleRun : Single → List Op → List Answer
+singleRun c [] = []
+singleRun c (op ∷ ops) = singleStep c op .answer ∷ singleRun (singleStep c op .single) ops
+
+-- and what there is after them
+unfoldable pub singleAfter : Single → List Op → Single
+singleAfter c [] = c
+singleAfter c (op ∷ ops) = singleAfter (singleStep c op .single) ops

@@ -1,0 +1,61 @@
+-- A lane that was closed at some time and has had calls since is the single controller: it answers the same, and what it
+-- stores is that controller's state, or all zero where there is none. Assumes nothing.
+use mathlib.Core.Path.{_≡_, refl, _∙_}
+use mathlib.Core.Bool.{Bool, true, false}
+use Rattle.filters.specs.SlewRate.{badLimit}
+use Rattle.rate_pid.specs.declared.RatePid.{RatePid}
+use Rattle.rate_pid.specs.RatePid.{zeroRate, newRate, badRate, callSetTs, callSetGains, callEnableIntegral, callResetIntegral}
+use Rattle.rate_pid.specs.RatePidLaws.{guard-passed, update-accepted, get-terms-accepted, slew-accepted, zero-limit, new-limit, step-limit, limit-limit, ts-limit, gains-limit, enable-limit, reset-limit}
+use Rattle.bank.specs.declared.lane.Lane.{Lane}
+use Rattle.bank.specs.declared.lane.SlewLimit.{SlewLimit}
+use Rattle.bank.specs.declared.lane.SlewLimit.the-variants.{Off, At}
+use Rattle.bank.specs.declared.lane.Op.{Op}
+use Rattle.bank.specs.declared.lane.Op.the-variants.{Open, Close, Update, SetTs, SetGains, EnableIntegral, ResetIntegral, ReadTerms}
+use Rattle.bank.specs.declared.lane.Stepped.{Stepped}
+use Rattle.bank.specs.Lane.{closedLane, openLane, stepped, whenOpen, whenGood, opened, laneStep}
+use Rattle.bank.specs.Single.{Single, none, one, Next, newSingle, singleStep}
+
+-- the lane in which it lies
+abbrev pub laneOf : Single → Lane
+laneOf none = closedLane
+laneOf (one s) = openLane s
+
+-- its stored limit is not bad
+abbrev pub Good : Single → Type 0
+Good none = zeroRate ≡ zeroRate
+Good (one s) = badRate s ≡ false
+
+-- the lane's step is the controller's, which stays good
+pub record As (next : Stepped) (n : Next) : Type 0 where
+  pub same : next ≡ stepped (n .answer) (laneOf (n .single))
+  pub good : Good (n .single)
+
+opened-as : (s : RatePid) (slew : SlewLimit) → badRate s ≡ false → As (opened closedLane s slew) (newSingle s slew)
+unfolding opened newSingle
+opened-as s Off g = record { same = refl; good = g }
+opened-as s (At limit) g = go (badLimit limit) refl
+  where
+    go : (t : Bool) → badLimit limit ≡ t → As (opened closedLane s (At limit)) (newSingle s (At limit))
+    go true e = record { same = simp e; good = simp e refl }
+    go false e = record { same = simp (e, slew-accepted s g limit e); good = simp e (limit-limit s limit ∙ e) }
+
+pub step-as : (c : Single) (op : Op) → Good c → As (laneStep (laneOf c) op) (singleStep c op)
+unfolding laneStep singleStep whenOpen whenGood closedLane callSetTs callSetGains callEnableIntegral callResetIntegral
+step-as none (Open kp ki kd tau dt slew) g =
+    let made = opened-as (newRate kp ki kd tau dt) slew (new-limit kp ki kd tau dt) in
+    record { same = simp zero-limit (made .same); good = made .good }
+step-as none Close g = record { same = refl; good = refl }
+step-as none (Update r m p) g = record { same = refl; good = refl }
+step-as none (SetTs ts) g = record { same = refl; good = refl }
+step-as none (SetGains kp ki kd) g = record { same = refl; good = refl }
+step-as none (EnableIntegral on) g = record { same = refl; good = refl }
+step-as none ResetIntegral g = record { same = refl; good = refl }
+step-as none ReadTerms g = record { same = refl; good = refl }
+step-as (one s) (Open kp ki kd tau dt slew) g = record { same = refl; good = g }
+step-as (one s) Close g = record { same = simp g; good = refl }
+step-as (one s) (Update r m p) g = record { same = simp (update-accepted s g r m p); good = step-limit s r m p ∙ g }
+step-as (one s) (SetTs ts) g = record { same = simp (guard-passed s g); good = ts-limit s ts ∙ g }
+step-as (one s) (SetGains kp ki kd) g = record { same = simp (guard-passed s g); good = gains-limit s kp ki kd ∙ g }
+step-as (one s) (EnableIntegral on) g = record { same = simp (guard-passed s g); good = enable-limit s on ∙ g }
+step-as (one s) ResetIntegral g = record { same = simp (guard-passed s g); good = reset-limit s ∙ g }
+step-as (one s) ReadTerms g = record { same = simp (get-terms-accepted s g); good = g }

@@ -1,0 +1,10 @@
+pub mod Text
+pub mod TextLaws
+pub mod Header
+pub mod HeaderLaws
+pub mod HeaderStart
+pub mod Printed
+pub mod Cell
+pub mod CellLaws
+pub mod Word
+pub mod WordLaws

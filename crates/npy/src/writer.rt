@@ -1,0 +1,78 @@
+// Results as words of 8 lowercase hexadecimal digits, a line a row.
+ghost use mathlib.Core.Path.{_≡_};
+ghost use Prim.Native.Nat.{_+_, _*_, _≤_, _<_, _^_};
+ghost use mathlib.Core.Bool.{cond};
+ghost use mathlib.Core.List.{[], _∷_, _++_};
+ghost use lib.ListN.{length};
+ghost use lib.Seq.{sets};
+ghost use Rattle.npy.specs.Word.{hexOf, hexWord, separator, lineOf, lineFits, lineEnd};
+
+fn hex(n: u32) -> u8
+    requires { ⌜ n < 16 ⌝ }
+    ensures { λ r. ⌜ r ≡ hexOf n ⌝ }
+{
+    if n < 10 {
+        return (n + 48) as u8;
+    }
+    (n + 87) as u8
+}
+
+// The digits of v and what stands after them, into the 9 bytes from o on.
+fn put_word(out: &mut [u8], o: usize, v: u32, after: u8)
+    requires { ⌜ o + 9 ≤ length (now out) ⌝ }
+    ensures { λ _. ⌜ now (out .exit) ≡ sets (now (out .entry)) o (hexWord v ++ (after ∷ [])) ⌝ }
+{
+    out[o] = hex(v / 0x1000_0000 % 16);
+    out[o + 1] = hex(v / 0x100_0000 % 16);
+    out[o + 2] = hex(v / 0x10_0000 % 16);
+    out[o + 3] = hex(v / 0x1_0000 % 16);
+    out[o + 4] = hex(v / 0x1000 % 16);
+    out[o + 5] = hex(v / 0x100 % 16);
+    out[o + 6] = hex(v / 0x10 % 16);
+    out[o + 7] = hex(v % 16);
+    out[o + 8] = after;
+}
+
+// A space where the i-th of n words is next, a line feed where none is.
+fn separator(i: usize, n: usize) -> u8
+    ensures { λ r. ⌜ r ≡ separator i n ⌝ }
+{
+    if i < n { b' ' } else { b'\n' }
+}
+
+fn put_words(values: &[f32], out: &mut [u8], at: usize)
+    requires { ⌜ at + 9 * length (now values) ≤ length (now out) ⌝ }
+    ensures { λ _. ⌜ now (out .exit) ≡ sets (now (out .entry)) at (lineOf (now (values .entry))) ⌝ }
+{
+    let n = values.len();
+    let mut o = at;
+    let mut i = 0;
+    while i < n {
+        put_word(out, o, float::to_bits(values[i]), separator(i + 1, n));
+        o += 9;
+        i += 1;
+    }
+}
+
+// Whether n words, 9 bytes each, fit from a place on.
+fn line_fits(at: usize, n: usize, len: usize) -> bool
+    ensures { λ r. ⌜ r ≡ lineFits at n len ⌝ }
+{
+    if len < at {
+        return false;
+    }
+    n <= (len - at) / 9
+}
+
+// Writes a row's line at a place, and answers the place after it. Where it does not fit, nothing is written and the
+// answer is the same place.
+pub fn put_line(out: &mut [u8], at: usize, values: &[f32]) -> usize
+    ensures { λ r. ⌜ (r ≡ lineEnd at (length (now (values .entry))) (length (now (out .entry)))) × (now (out .exit) ≡ cond (lineFits at (length (now (values .entry))) (length (now (out .entry)))) (sets (now (out .entry)) at (lineOf (now (values .entry)))) (now (out .entry))) ⌝ }
+{
+    let n = values.len();
+    if !line_fits(at, n, out.len()) {
+        return at;
+    }
+    put_words(values, out, at);
+    at + 9 * n
+}

@@ -1,0 +1,119 @@
+"""Files for replays: arrays written by NumPy itself, and damaged copies of them. The same seed gives the same files."""
+
+import io
+import random
+
+import numpy as np
+
+# numpy.save writes version 1.0; version 2.0 is had from the function below it.
+VERSIONS = ((1, 0), (2, 0))
+KINDS = ("<f4", "<i2")
+
+
+def written(array, version):
+    to = io.BytesIO()
+    if version == (1, 0):
+        np.save(to, array)
+    else:
+        np.lib.format.write_array(to, array, version=version)
+    return to.getvalue()
+
+
+def odd(rng):
+    return rng.choice([0.0, -0.0, 1.0, -1.0, float("nan"), float("inf"), float("-inf"), 1e-45, -1e-38, 3.4e38, 0.999999, 1.000001])
+
+
+def settings(rng, lanes):
+    rows = []
+    for _ in range(lanes):
+        row = [rng.uniform(-2, 2), rng.uniform(-2, 2), rng.uniform(-0.1, 0.1), rng.choice([0.0, rng.uniform(0, 0.1)]), rng.choice([1.0, 0.001, 0.004, rng.uniform(0.0001, 0.1)])]
+        if rng.random() < 0.1:
+            row[rng.randrange(5)] = odd(rng)
+        rows.append(row)
+    return np.array(rows, dtype="<f4")
+
+
+def cells(rng, kind, rows, lanes):
+    if kind == "<i2":
+        numbers = np.array([rng.choice([rng.randint(-1500, 1500), rng.randint(-32768, 32767)]) for _ in range(rows * lanes * 3)], dtype="<i2")
+    else:
+        numbers = np.array([odd(rng) if rng.random() < 0.01 else rng.uniform(-1.3, 1.3) for _ in range(rows * lanes * 3)], dtype="<f4")
+    return numbers.reshape(rows, lanes * 3)
+
+
+def good(rng):
+    """A file that is accepted, and what it has of each."""
+    lanes, kind = rng.randint(1, 8), rng.choice(KINDS)
+    rows = rng.choice([0, 1, 2, rng.randint(3, 40), rng.randint(40, 400)])
+    first, second = rng.choice(VERSIONS), rng.choice(VERSIONS)
+    return written(settings(rng, lanes), first) + written(cells(rng, kind, rows, lanes), second)
+
+
+def header_ends(file):
+    """Where the first array's data begin, where the second array begins, and where its data begin."""
+    def head(at):
+        width = 2 if file[at + 6] == 1 else 4
+        return at + 8 + width + int.from_bytes(file[at + 8 : at + 8 + width], "little")
+
+    first = head(0)
+    text = file[:first].decode("latin-1")
+    lanes = int(text[text.index("(") + 1 : text.index(",", text.index("("))])
+    second = first + 20 * lanes
+    return first, second, head(second)
+
+
+def small(rng):
+    """A file of few bytes, for damage at each of its places."""
+    lanes, kind = rng.randint(1, 2), rng.choice(KINDS)
+    first, second = rng.choice(VERSIONS), rng.choice(VERSIONS)
+    return written(settings(rng, lanes), first) + written(cells(rng, kind, rng.randint(1, 3), lanes), second)
+
+
+def lies(rng, file):
+    """A number in one of the two shapes changed."""
+    first, second, data = header_ends(file)
+    at, end = rng.choice([(0, first), (second, data)])
+    head = bytearray(file[at:end])
+    open_, close = head.index(b"("), head.index(b")")
+    told = head[open_ + 1 : close].decode().split(", ")
+    told[rng.randrange(2)] = rng.choice(["0", "1", "5", "3", "6", "9", "999999999", "1000000000", "00", "07", str(rng.randint(0, 30))])
+    new = head[: open_ + 1] + ", ".join(told).encode() + head[close:]
+    # The text keeps its length: spaces go or come before the line feed.
+    spaces = len(head) - len(new)
+    body = new[:-1]
+    body = body + b" " * spaces if 0 <= spaces else body[:spaces]
+    return file[:at] + bytes(body) + b"\n" + file[end:]
+
+
+def descr(rng, file):
+    """Another element kind, in either array."""
+    first, second, data = header_ends(file)
+    at, end = rng.choice([(0, first), (second, data)])
+    name = rng.choice(["<f8", ">f4", "<i4", "|u1", "<f4", "<i2", "f4", "<U12345678901234", "<U123456789012345"])
+    head = bytes(file[at:end])
+    new = head.replace(b"<f4", name.encode()).replace(b"<i2", name.encode())
+    extra = len(new) - len(head)
+    new = new[: -1 - extra] + b"\n" if 0 < extra else new[:-1] + b" " * -extra + b"\n"
+    return file[:at] + new + file[end:]
+
+
+def damaged(rng):
+    """Damaged copies without end: of each file every cut, a changed byte at every place of its headers, and more of every sort."""
+    while True:
+        file = small(rng)
+        first, second, data = header_ends(file)
+        for n in range(len(file)):
+            yield file[:n]
+        for at in list(range(first)) + list(range(second, data)):
+            changed = bytearray(file)
+            changed[at] = rng.choice([(changed[at] + rng.randint(1, 255)) % 256, changed[at] ^ (1 << rng.randrange(8)), 0x20, 0x0A, 0x30, 0x00])
+            yield bytes(changed)
+        for _ in range(40):
+            yield file + bytes(rng.randrange(256) for _ in range(rng.choice([1, 1, 2, 20, 200])))
+            yield lies(rng, file)
+            yield descr(rng, file)
+            at = rng.randrange(len(file))
+            yield file[:at] + bytes(rng.randrange(256) for _ in range(rng.randint(1, 3))) + file[at:]
+            n = rng.choice([0, 1, 999, 1000, 1001, 65535, rng.randrange(65536)])
+            yield file[:8] + n.to_bytes(2, "little") + file[10:]
+            yield file[second:] + file[:second]
