@@ -3,9 +3,9 @@ ghost use mathlib.Core.Path.{_≡_};
 ghost use Rattle.filters.specs.Lowpass.{lowpassOf, newLowpass, setDtLowpass, setTauLowpass, stepLowpass};
 
 pub struct Lowpass {
+    pub y: f32,
     pub tau: f32,
     pub dt: f32,
-    pub y: f32,
     pub alpha0: f32,
     pub alpha1: f32,
 }

@@ -1,8 +1,9 @@
 -- A result is a word, 8 lowercase hexadecimal digits; a row is a line, its words with single spaces between them and a line feed.
-use Prim.Native.Nat.{ℕ, _+_, _-_, _*_, _/_, _%_}
+use Prim.Native.Nat.{ℕ, zero, suc, _+_, _-_, _*_, _/_, _%_}
 use mathlib.Core.List.{List, [], _∷_, _++_}
 use mathlib.Core.Bool.{Bool, cond, _&&_}
 use lib.Dec.{ltb, leb}
+use lib.ListN.{take, drop}
 use lib.Ieee as Ieee
 use lib.Ieee.{Float, binary32}
 
@@ -37,3 +38,8 @@ lineFits at n len = leb at len && leb n ((len - at) / 9)
 
 unfoldable pub lineEnd : ℕ → ℕ → ℕ → ℕ
 lineEnd at n len = cond (lineFits at n len) (at + 9 * n) at
+
+-- n rows of k words
+unfoldable pub linesOf : ℕ → ℕ → List Float → List ℕ
+linesOf k zero xs = []
+linesOf k (suc n) xs = lineOf (take k xs) ++ linesOf k n (drop k xs)

@@ -7,11 +7,11 @@ use native.Mathlib.Numerals.{add-one}
 use native.Mathlib.Omega.{arith}
 use lib.ListN.{length, getD, set, take, drop, drop-of-length-le}
 use lib.Seq.{drop-cons, drop-drop, sets}
-use lib.Dec.{leb}
+use lib.Dec.{ltb, leb}
 use lib.Ieee as Ieee
 use lib.Ieee.{Float, nan, binary32}
 use mathlib.Core.Logic.{⊎-elim}
-use borrow.Author.Tests.{lt-ltb, le-ltb, leb-true}
+use borrow.Author.Tests.{lt-ltb, le-ltb, le-leb, lt-leb, leb-true, leb-false, ltb-true, ltb-false}
 use Rattle.npy.specs.TextLaws.{lt-or-le, and-left, and-right}
 use Rattle.npy.specs.Word.{hexOf, hexWord, wordOf, afterWord, lineOf, separator, lineFits, lineEnd}
 
@@ -100,3 +100,20 @@ line-column (x ∷ v) (suc i) h =
 pub nan-word : wordOf nan ≡ 55 ∷ 102 ∷ 99 ∷ 48 ∷ 48 ∷ 48 ∷ 48 ∷ 48 ∷ []
 unfolding wordOf hexWord hexOf Ieee.toBits
 nan-word = refl
+
+-- a digit without a test
+pub hex-sum : (n : ℕ) → n < 16 → n + 48 + (n + 6) / 16 * 39 ≡ hexOf n
+unfolding hexOf
+hex-sum n h = go (ltb n 10) refl
+  where
+    go : (t : Bool) → ltb n 10 ≡ t → n + 48 + (n + 6) / 16 * 39 ≡ cond t (n + 48) (n + 87)
+    go true e = let l : n < 10 = ltb-true n 10 e in omega arith
+    go false e = let l : 10 ≤ n = ltb-false n 10 e in omega arith
+
+-- a quotient by 9 compared, by a product
+pub by-product : (n m : ℕ) → leb (n * 9) m ≡ leb n (m / 9)
+by-product n m = go (leb n (m / 9)) refl
+  where
+    go : (t : Bool) → leb n (m / 9) ≡ t → leb (n * 9) m ≡ t
+    go true e = le-leb (n * 9) m (let h : n ≤ m / 9 = leb-true n (m / 9) e in omega arith)
+    go false e = lt-leb (n * 9) m (let h : m / 9 < n = leb-false n (m / 9) e in omega arith)

@@ -7,14 +7,12 @@ ghost use lib.ListN.{length};
 ghost use lib.Seq.{sets};
 ghost use Rattle.npy.specs.Word.{hexOf, hexWord, separator, lineOf, lineFits, lineEnd};
 
+// A sum and no test: the letters come 39 places after where the digits end.
 fn hex(n: u32) -> u8
     requires { ⌜ n < 16 ⌝ }
     ensures { λ r. ⌜ r ≡ hexOf n ⌝ }
 {
-    if n < 10 {
-        return (n + 48) as u8;
-    }
-    (n + 87) as u8
+    (n + 48 + (n + 6) / 16 * 39) as u8
 }
 
 // The digits of v and what stands after them, into the 9 bytes from o on.
@@ -60,6 +58,10 @@ fn line_fits(at: usize, n: usize, len: usize) -> bool
 {
     if len < at {
         return false;
+    }
+    // A product is quicker than a quotient, where it cannot be too large.
+    if n < 0x1_0000_0000 {
+        return n * 9 <= len - at;
     }
     n <= (len - at) / 9
 }

@@ -1,4 +1,9 @@
+use mathlib.Core.Path.{_≡_, refl}
+use Prim.Native.Nat.{ℕ, _*_, _-_, _/_, _≤_}
+use native.Mathlib.Omega.{arith}
+use lib.Dec.{leb}
 use Rattle.npy.specs.Word.{lineFits}
+use Rattle.npy.specs.WordLaws.{by-product}
 use borrow.Author.Tests.{le-leb, lt-leb}
 use Rattle.npy.proofs.writer.line_fits.Statement.{statement}
 use Rattle.npy.proofs.writer.line_fits.Tie as tie
@@ -7,9 +12,16 @@ returns : tie.Need-returns
 unfolding lineFits
 returns c = simp (lt-leb _ _ (c .if1 .taken))
 
+mul-result : tie.Need-mul-result
+mul-result c = omega arith
+
 returns-2 : tie.Need-returns-2
 unfolding lineFits
-returns-2 c = simp (le-leb _ _ (c .if1 .left))
+returns-2 c = simp (le-leb _ _ (c .before .if1 .left), by-product)
+
+returns-3 : tie.Need-returns-3
+unfolding lineFits
+returns-3 c = simp (le-leb _ _ (c .before .if1 .left))
 
 pub line-fits-spec : {M : Type 1} → statement M
-line-fits-spec = tie.close (tie.spec returns returns-2)
+line-fits-spec = tie.close (tie.spec returns mul-result returns-2 returns-3)

@@ -1,0 +1,173 @@
+-- What the code's answers are, case by case. Assumes nothing.
+use mathlib.Core.Path.{_≡_, refl, sym, ap, _∙_, subst}
+use mathlib.Core.List.{List, [], _∷_, _++_}
+use mathlib.Core.Bool.{Bool, true, false, cond, _&&_, true≢false}
+use Prim.Native.Nat.{ℕ, zero, suc, _+_, _-_, _*_, _≤_, _<_}
+use native.Mathlib.Omega.{arith}
+use borrow.Author.Tests.{ltb-true, ltb-false, leb-true, eqb-true, eqb-false, lt-ltb, le-ltb, le-leb, lt-leb, eq-eqb, ne-eqb}
+use lib.Dec.{ltb, leb, eqb}
+use lib.Ieee.{Float}
+use lib.ListN.{length, take, drop, length-drop}
+use lib.Seq.{drop-drop}
+use Rattle.refusal.specs.declared.Refusal.{Refusal}
+use Rattle.refusal.specs.declared.Refusal.the-variants as Refusal
+use Rattle.refusal.specs.Refusal.{numberOf}
+use Rattle.npy.specs.declared.reader.Kind.{Kind}
+use Rattle.npy.specs.declared.reader.Kind.the-variants.{F4}
+use Rattle.npy.specs.declared.reader.Head.{Head}
+use Rattle.npy.specs.Header.{cellWidth, accepted, headerOf}
+use Rattle.npy.specs.HeaderLaws.{to-end, at-within}
+use Rattle.npy.specs.Cell.{cellOf, cellsOf}
+use Rattle.bank.specs.declared.lane.Op.the-variants.{Open}
+use Rattle.bank.specs.declared.lane.SlewLimit.the-variants.{Off}
+use Rattle.bank.specs.declared.Bank.{Bank}
+use Rattle.bank.specs.Bank.{freshBank, bankStep}
+use Rattle.bank.specs.Runs.{after}
+use Rattle.trace.specs.declared.course.Course.{Course}
+use Rattle.trace.specs.declared.course.Begun.{Begun}
+use Rattle.trace.specs.Trace.{refused, isF4, isCell, settingsRefusal, openCalls, openedBank, traceRefusal, refusedStart, traceStart, startOf}
+
+-- ---- the settings, test by test
+
+module _ (h : Head) (len : ℕ) where
+  pub settings-header : (n : ℕ) → n ≡ numberOf (h .refusal) → (n ≡ 0 → ⊥) → h .refusal ≡ settingsRefusal h len
+  unfolding settingsRefusal
+  settings-header n e g = rw (← e, ne-eqb n 0 g)
+
+  settings-tests : (n : ℕ) (t u : Bool) → n ≡ numberOf (h .refusal) → n ≡ 0 → t ≡ isF4 (h .kind) → u ≡ (leb 1 (h .rows) && (leb (h .rows) 8 && eqb (h .cols) 5))
+      → settingsRefusal h len ≡ cond t (cond u (cond (leb (h .at + h .rows * 20) len) Refusal.None Refusal.Cut) Refusal.Shape) Refusal.Kind
+  unfolding settingsRefusal
+  settings-tests n t u e g et eu = rw (← e, eq-eqb n 0 g, et, eu)
+
+  pub settings-kind : (n : ℕ) (t : Bool) → n ≡ numberOf (h .refusal) → n ≡ 0 → t ≡ isF4 (h .kind) → t ≡ false → Refusal.Kind ≡ settingsRefusal h len
+  settings-kind n t e g et h0 = sym (settings-tests n t _ e g et refl ∙ simp h0)
+
+  pub settings-shape : (n : ℕ) (t u : Bool) → n ≡ numberOf (h .refusal) → n ≡ 0 → t ≡ isF4 (h .kind) → t ≡ true
+      → u ≡ (leb 1 (h .rows) && (leb (h .rows) 8 && eqb (h .cols) 5)) → u ≡ false → Refusal.Shape ≡ settingsRefusal h len
+  settings-shape n t u e g et h0 eu h1 = sym (settings-tests n t u e g et eu ∙ simp (h0, h1))
+
+  pub settings-cut : (n : ℕ) (t u : Bool) → n ≡ numberOf (h .refusal) → n ≡ 0 → t ≡ isF4 (h .kind) → t ≡ true
+      → u ≡ (leb 1 (h .rows) && (leb (h .rows) 8 && eqb (h .cols) 5)) → u ≡ true → h .at ≤ len → len - h .at < h .rows * 20 → Refusal.Cut ≡ settingsRefusal h len
+  settings-cut n t u e g et h0 eu h1 a b = sym (settings-tests n t u e g et eu ∙ simp (h0, h1, lt-leb (h .at + h .rows * 20) len (omega arith)))
+
+  pub settings-none : (n : ℕ) (t u : Bool) → n ≡ numberOf (h .refusal) → n ≡ 0 → t ≡ isF4 (h .kind) → t ≡ true
+      → u ≡ (leb 1 (h .rows) && (leb (h .rows) 8 && eqb (h .cols) 5)) → u ≡ true → h .at ≤ len → h .rows * 20 ≤ len - h .at → Refusal.None ≡ settingsRefusal h len
+  settings-none n t u e g et h0 eu h1 a b = sym (settings-tests n t u e g et eu ∙ simp (h0, h1, le-leb (h .at + h .rows * 20) len (omega arith)))
+
+-- where nothing is refused, every test held
+pub record Settled (h : Head) (len : ℕ) : Type 0 where
+  pub some : 1 ≤ h .rows
+  pub few : h .rows ≤ 8
+  pub there : h .at + h .rows * 20 ≤ len
+
+pub rows-shape : (rows cols : ℕ) (u : Bool) → u ≡ (leb 1 rows && (leb rows 8 && eqb cols 5)) → u ≡ true → (1 ≤ rows) × (rows ≤ 8)
+rows-shape rows cols u e h = go (leb 1 rows) (leb rows 8) refl refl (sym e ∙ h)
+  where
+    go : (p q : Bool) → leb 1 rows ≡ p → leb rows 8 ≡ q → (p && (q && eqb cols 5)) ≡ true → (1 ≤ rows) × (rows ≤ 8)
+    go true true ep eq g = (leb-true _ _ ep, leb-true _ _ eq)
+    go true false ep eq g = absurd (true≢false (sym g))
+    go false q ep eq g = absurd (true≢false (sym g))
+
+pub settled : (h : Head) (len : ℕ) → refused (settingsRefusal h len) ≡ false → Settled h len
+unfolding settingsRefusal
+settled h len = go (accepted h) (isF4 (h .kind)) (leb 1 (h .rows) && (leb (h .rows) 8 && eqb (h .cols) 5)) (leb (h .at + h .rows * 20) len) refl refl refl
+  where
+    go : (a t u v : Bool) → accepted h ≡ a → (leb 1 (h .rows) && (leb (h .rows) 8 && eqb (h .cols) 5)) ≡ u → leb (h .at + h .rows * 20) len ≡ v
+        → refused (cond a (cond t (cond u (cond v Refusal.None Refusal.Cut) Refusal.Shape) Refusal.Kind) (h .refusal)) ≡ false → Settled h len
+    go true true true true en eu ev g = let p = rows-shape (h .rows) (h .cols) true (sym eu) refl in record { some = p .0; few = p .1; there = leb-true _ _ ev }
+    go true true true false en eu ev g = absurd (true≢false g)
+    go true true false v en eu ev g = absurd (true≢false g)
+    go true false u v en eu ev g = absurd (true≢false g)
+    go false t u v en eu ev g = absurd (eqb-false (numberOf (h .refusal)) 0 en (omega (arith, ltb-false 0 (numberOf (h .refusal)) g)))
+
+-- ---- the trace's header, test by test
+
+module _ (k : ℕ) (h : Head) where
+  pub trace-header : (n : ℕ) → n ≡ numberOf (h .refusal) → (n ≡ 0 → ⊥) → h .refusal ≡ traceRefusal k h
+  unfolding traceRefusal
+  trace-header n e g = rw (← e, ne-eqb n 0 g)
+
+  trace-tests : (n : ℕ) (t : Bool) → n ≡ numberOf (h .refusal) → n ≡ 0 → t ≡ isCell (h .kind)
+      → traceRefusal k h ≡ cond t (cond (eqb (h .cols) (k * 3)) Refusal.None Refusal.Shape) Refusal.Kind
+  unfolding traceRefusal
+  trace-tests n t e g et = rw (← e, eq-eqb n 0 g, et)
+
+  pub trace-kind : (n : ℕ) (t : Bool) → n ≡ numberOf (h .refusal) → n ≡ 0 → t ≡ isCell (h .kind) → t ≡ false → Refusal.Kind ≡ traceRefusal k h
+  trace-kind n t e g et h0 = sym (trace-tests n t e g et ∙ simp h0)
+
+  pub trace-shape : (n : ℕ) (t : Bool) → n ≡ numberOf (h .refusal) → n ≡ 0 → t ≡ isCell (h .kind) → t ≡ true → (h .cols ≡ k * 3 → ⊥) → Refusal.Shape ≡ traceRefusal k h
+  trace-shape n t e g et h0 h1 = sym (trace-tests n t e g et ∙ simp (h0, ne-eqb _ _ h1))
+
+  pub trace-none : (n : ℕ) (t : Bool) → n ≡ numberOf (h .refusal) → n ≡ 0 → t ≡ isCell (h .kind) → t ≡ true → h .cols ≡ k * 3 → Refusal.None ≡ traceRefusal k h
+  trace-none n t e g et h0 h1 = sym (trace-tests n t e g et ∙ simp (h0, eq-eqb _ _ h1))
+
+-- ---- the lanes that are opened
+
+module _ (s : List ℕ) where
+  -- five cells from a place on
+  five : (n i : ℕ) → cellsOf F4 (suc (suc (suc (suc (suc n))))) (drop i s)
+      ≡ cellOf F4 (drop i s) ∷ (cellOf F4 (drop (i + 4) s) ∷ (cellOf F4 (drop (i + 8) s) ∷ (cellOf F4 (drop (i + 12) s) ∷ (cellOf F4 (drop (i + 16) s) ∷ cellsOf F4 n (drop (i + 20) s)))))
+  unfolding cellsOf
+  five n i =
+      let a : i + 4 + 4 ≡ i + 8 = omega arith in
+      let b : i + 8 + 4 ≡ i + 12 = omega arith in
+      let d : i + 12 + 4 ≡ i + 16 = omega arith in
+      let e : i + 16 + 4 ≡ i + 20 = omega arith in
+      simp (drop-drop, a, b, d, e)
+
+  pub open-more : (k lane i : ℕ) (b : Bank) (kp ki kd tau dt : Float) → lane < k
+      → kp ≡ cellOf F4 (drop i s) → ki ≡ cellOf F4 (drop (i + 4) s) → kd ≡ cellOf F4 (drop (i + 8) s) → tau ≡ cellOf F4 (drop (i + 12) s) → dt ≡ cellOf F4 (drop (i + 16) s)
+      → after (bankStep b lane (Open kp ki kd tau dt Off) .bank) (openCalls (lane + 1) (cellsOf F4 ((k - (lane + 1)) * 5) (drop (i + 20) s)))
+      ≡ after b (openCalls lane (cellsOf F4 ((k - lane) * 5) (drop i s)))
+  unfolding openCalls after
+  open-more k lane i b kp ki kd tau dt h e1 e2 e3 e4 e5 =
+      let a : (k - lane) * 5 ≡ suc (suc (suc (suc (suc ((k - (lane + 1)) * 5))))) = omega arith in
+      let l : lane + 1 ≡ suc lane = omega arith in
+      rw (a, five ((k - (lane + 1)) * 5) i, ← e1, ← e2, ← e3, ← e4, ← e5, l)
+
+  pub open-done : (k lane i : ℕ) (b : Bank) → k ≤ lane → b ≡ after b (openCalls lane (cellsOf F4 ((k - lane) * 5) (drop i s)))
+  unfolding openCalls after cellsOf
+  open-done k lane i b h = let a : (k - lane) * 5 ≡ 0 = omega arith in rw a
+
+  pub open-start : (k : ℕ) (b : Bank) → b ≡ freshBank → after b (openCalls 0 (cellsOf F4 ((k - 0) * 5) (drop 0 s))) ≡ openedBank k s
+  unfolding openedBank
+  open-start k b e = let a : k - 0 ≡ k = omega arith in rw (e, a)
+
+-- ---- the start
+
+pub trace-refused : (k at : ℕ) (b : Bank) (s : List ℕ) (h : Head) (why : Refusal) (t : Bool) (r : Begun) → h ≡ headerOf (take (length s - at) (drop at s)) → why ≡ traceRefusal k h
+    → t ≡ refused why → t ≡ true → r ≡ refusedStart why → r ≡ traceStart k b at s
+unfolding traceStart
+trace-refused k at b s h why t r eh ew et g er =
+    let eh' : h ≡ headerOf (drop at s) = rw (to-end s at) at eh in
+    er ∙ rw (← eh', ← ew, ← et, g)
+
+pub trace-started : (k at : ℕ) (b : Bank) (s : List ℕ) (h : Head) (why : Refusal) (t : Bool) → h ≡ headerOf (take (length s - at) (drop at s)) → why ≡ traceRefusal k h
+    → t ≡ refused why → t ≡ false
+    → record { refusal = Refusal.None; course = record { kind = h .kind; lanes = k; left = h .rows; bank = b }; at = at + h .at } ≡ traceStart k b at s
+unfolding traceStart
+trace-started k at b s h why t eh ew et g =
+    let eh' : h ≡ headerOf (drop at s) = rw (to-end s at) at eh in
+    rw (← eh', ← ew, ← et, g)
+
+-- the place after the second header is one of the file's
+pub place-within : (at : ℕ) (s : List ℕ) (h : Head) → h ≡ headerOf (take (length s - at) (drop at s)) → h .at ≤ length s - at
+place-within at s h e = rw e (subst (λ (n : ℕ). headerOf (take (length s - at) (drop at s)) .at ≤ n) (long s at) (at-within (take (length s - at) (drop at s))))
+  where
+    long : (s : List ℕ) (at : ℕ) → length (take (length s - at) (drop at s)) ≡ length s - at
+    long s at = rw (to-end s at) (length-drop at s)
+
+pub start-refused : (s : List ℕ) (h : Head) (why : Refusal) (t : Bool) (r : Begun) → h ≡ headerOf s → why ≡ settingsRefusal h (length s) → t ≡ refused why → t ≡ true
+    → r ≡ refusedStart why → r ≡ startOf s
+unfolding startOf
+start-refused s h why t r eh ew et g er = er ∙ rw (← eh, ← ew, ← et, g)
+
+pub started : (s : List ℕ) (h : Head) (why : Refusal) (t : Bool) (b : Bank) (r : Begun) → h ≡ headerOf s → why ≡ settingsRefusal h (length s) → t ≡ refused why → t ≡ false
+    → b ≡ openedBank (h .rows) (take (length s - h .at) (drop (h .at) s)) → r ≡ traceStart (h .rows) b (h .at + h .rows * 20) s → r ≡ startOf s
+unfolding startOf
+started s h why t b r eh ew et g eb er =
+    let eb' : b ≡ openedBank (h .rows) (drop (h .at) s) = rw (to-end s (h .at)) at eb in
+    er ∙ rw (← eh, ← ew, ← et, g, eb')
+
+pub settled-from : (s : List ℕ) (h : Head) (why : Refusal) (t : Bool) → why ≡ settingsRefusal h (length s) → t ≡ refused why → t ≡ false → Settled h (length s)
+settled-from s h why t ew et g = settled h (length s) (rw (← ew, ← et) g)

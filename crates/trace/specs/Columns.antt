@@ -1,0 +1,390 @@
+-- The column theorem: what is printed for a lane is what one controller gives that has the lane's settings and is updated with the lane's
+-- cells. Nothing of another lane comes into it. Assumes nothing.
+use mathlib.Core.Path.{_≡_, refl, sym, ap, subst, _∙_}
+use mathlib.Core.List.{List, [], _∷_, _++_, append-assoc}
+use mathlib.Core.Bool.{false}
+use Prim.Native.Nat.{ℕ, zero, suc, _+_, _-_, _*_, _≤_, _<_}
+use native.Mathlib.Nat.{suc-mul, zero-mul, add-zero, zero-add, add-comm, add-assoc, mul-assoc, add-mul}
+use native.Mathlib.Omega.{arith}
+use lib.Ieee.{Float, nan}
+use lib.ListN.{length, getD, take, drop}
+use lib.Seq.{drop-drop, drop-append-add}
+use borrow.Author.Tests.{lt-ltb, eq-eqb, ne-eqb}
+use Rattle.refusal.specs.declared.Refusal.the-variants as Refusal
+use Rattle.npy.specs.declared.reader.Kind.{Kind}
+use Rattle.npy.specs.declared.reader.Kind.the-variants.{F4}
+use Rattle.npy.specs.Header.{cellWidth, headerOf}
+use Rattle.npy.specs.Cell.{cellOf, cellsOf}
+use Rattle.npy.specs.Word.{hexWord, wordOf, lineOf}
+use Rattle.bank.specs.declared.lane.Op.{Op}
+use Rattle.bank.specs.declared.lane.Op.the-variants.{Open, Update}
+use Rattle.bank.specs.declared.lane.SlewLimit.the-variants.{Off}
+use Rattle.bank.specs.declared.lane.Answer.{Answer}
+use Rattle.bank.specs.declared.Bank.{Bank}
+use Rattle.bank.specs.Lane.{plain}
+use Rattle.bank.specs.Bank.{freshBank, laneAt, bankStep}
+use Rattle.bank.specs.BankLaws.{Eight, fresh-eight, fresh-closed, step-eight}
+use Rattle.rate_pid.specs.RatePid.{newRate}
+use Rattle.bank.specs.Single.{Single, none, one, newSingle, singleStep, singleRun, singleAfter}
+use Rattle.bank.specs.SingleLaws.{laneOf, Good, step-as}
+use Rattle.bank.specs.Runs.{For, for, run, after, ofLane}
+use Rattle.bank.specs.RunLaws.{apart}
+use Rattle.bank.specs.Rows.{nextLane, updateCalls, valuesOf}
+use Rattle.trace.specs.declared.course.Course.{Course}
+use Rattle.trace.specs.Trace.{refused, openCalls, openedBank, startOf, replayOf, rowWidth, rowCalls, rowLine, rowOn, nextRows}
+use Rattle.trace.specs.TraceLaws.{updateOf, calls-more, row-length, values-length, row-count, Whole, accepted-prints, started, rowsOf, Accepted, accepted-all}
+
+-- ---- lane after lane
+
+-- things for a lane, the next lane, and so on
+unfoldable pub inTurn : {A : Type 0} → ℕ → List A → List (For A)
+inTurn lane [] = []
+inTurn lane (x ∷ xs) = for lane x ∷ inTurn (suc lane) xs
+
+pub turn-past : {A : Type 0} (L lane : ℕ) (xs : List A) → L < lane → ofLane L (inTurn lane xs) ≡ []
+unfolding inTurn ofLane
+turn-past L lane [] h = refl
+turn-past L lane (x ∷ xs) h =
+    let other : L ≡ lane → ⊥ = λ e. omega arith in
+    rw (ne-eqb L lane other) (turn-past L (suc lane) xs (omega arith))
+
+-- a lane has the one in its place
+pub turn-at : {A : Type 0} (i lane : ℕ) (xs : List A) (d : A) → i < length xs → ofLane (lane + i) (inTurn lane xs) ≡ getD xs i d ∷ []
+unfolding inTurn ofLane
+turn-at i lane [] d h = absurd (omega arith)
+turn-at zero lane (x ∷ xs) d h = rw (add-zero lane, eq-eqb lane lane refl, turn-past lane (suc lane) xs (omega arith))
+turn-at (suc i) lane (x ∷ xs) d h =
+    let other : lane + suc i ≡ lane → ⊥ = λ e. omega arith in
+    let e : lane + suc i ≡ suc lane + i = omega arith in
+    rw (ne-eqb (lane + suc i) lane other, e) (turn-at i (suc lane) xs d (omega arith))
+
+pub lane-of : {A : Type 0} (L : ℕ) (xs : List A) (d : A) → L < length xs → ofLane L (inTurn 0 xs) ≡ getD xs L d ∷ []
+lane-of L xs d h = rw zero-add at (turn-at L 0 xs d h)
+
+-- n things one after the other, each read from w bytes
+unfoldable pub each : {A : Type 0} → (List ℕ → A) → ℕ → ℕ → List ℕ → List A
+each f w zero s = []
+each f w (suc n) s = f s ∷ each f w n (drop w s)
+
+pub each-length : {A : Type 0} (f : List ℕ → A) (w n : ℕ) (s : List ℕ) → length (each f w n s) ≡ n
+unfolding each
+each-length f w zero s = refl
+each-length f w (suc n) s = ap suc (each-length f w n (drop w s))
+
+pub each-at : {A : Type 0} (f : List ℕ → A) (w n : ℕ) (s : List ℕ) (i : ℕ) (d : A) → i < n → getD (each f w n s) i d ≡ f (drop (i * w) s)
+unfolding each
+each-at f w zero s i d h = absurd (omega arith)
+each-at f w (suc n) s zero d h = rw (zero-mul w)
+each-at f w (suc n) s (suc i) d h =
+    each-at f w n (drop w s) i d (omega arith) ∙ rw (suc-mul i w, add-comm (i * w) w, drop-drop)
+
+pub lane-of-each : {A : Type 0} (f : List ℕ → A) (w n : ℕ) (s : List ℕ) (L : ℕ) → L < n → ofLane L (inTurn 0 (each f w n s)) ≡ f (drop (L * w) s) ∷ []
+lane-of-each f w n s L h =
+    let len = each-length f w n s in
+    lane-of L (each f w n s) (f s) (omega arith) ∙ ap (λ (x : _). x ∷ []) (each-at f w n s L (f s) h)
+
+-- ---- the calls of a file
+
+-- a row's calls are its lanes' updates in turn
+pub updates-turn : (kind : Kind) (k n lane : ℕ) (s : List ℕ) → lane + n ≡ k
+    → updateCalls k lane (cellsOf kind (n * 3) s) ≡ inTurn lane (each (updateOf kind) (3 * cellWidth kind) n s)
+unfolding inTurn each updateCalls cellsOf nextLane
+updates-turn kind k zero lane s e = refl
+updates-turn kind k (suc zero) lane s e = calls-more kind k lane 0 s
+updates-turn kind k (suc (suc n)) lane s e =
+    let next : suc lane < k = omega arith in
+    calls-more kind k lane (suc n) s
+    ∙ ap (λ (l : List (For Op)). for lane (updateOf kind s) ∷ l)
+    (rw (lt-ltb (suc lane) k next) (updates-turn kind k (suc n) (suc lane) (drop (3 * cellWidth kind) s) (omega arith)))
+
+-- what a lane is opened with: the five settings that a list begins with
+unfoldable pub openOf : List ℕ → Op
+openOf s = Open (cellOf F4 s) (cellOf F4 (drop 4 s)) (cellOf F4 (drop 8 s)) (cellOf F4 (drop 12 s)) (cellOf F4 (drop 16 s)) Off
+
+pub opens-turn : (n lane : ℕ) (s : List ℕ) → openCalls lane (cellsOf F4 (n * 5) s) ≡ inTurn lane (each openOf 20 n s)
+unfolding inTurn each openCalls cellsOf openOf
+opens-turn zero lane s = refl
+opens-turn (suc n) lane s =
+    let e : suc n * 5 ≡ suc (suc (suc (suc (suc (n * 5))))) = omega arith in
+    rw (e, drop-drop 4 4 s, drop-drop 4 8 s, drop-drop 4 12 s, drop-drop 4 16 s, opens-turn n (suc lane) (drop 20 s))
+
+-- ---- the answers of a run
+
+unfoldable pub things : {A : Type 0} → List (For A) → List A
+things [] = []
+things (x ∷ xs) = x .thing ∷ things xs
+
+-- a run that calls lane after lane answers lane after lane
+pub run-turn : (ops : List Op) (b : Bank) (lane : ℕ) → run b (inTurn lane ops) ≡ inTurn lane (things (run b (inTurn lane ops)))
+unfolding run inTurn things
+run-turn [] b lane = refl
+run-turn (op ∷ ops) b lane =
+    ap (λ (l : List (For Answer)). for lane (bankStep b lane op .answer) ∷ l) (run-turn ops (bankStep b lane op .bank) (suc lane))
+
+pub value-at : (xs : List (For Answer)) (i : ℕ) (d : Answer) → i < length xs → getD (valuesOf xs) i nan ≡ getD (things xs) i d .y
+unfolding valuesOf things
+value-at [] i d h = absurd (omega arith)
+value-at (x ∷ xs) zero d h = refl
+value-at (x ∷ xs) (suc i) d h = value-at xs i d (omega arith)
+
+pub things-length : {A : Type 0} (xs : List (For A)) → length (things xs) ≡ length xs
+unfolding things
+things-length [] = refl
+things-length (x ∷ xs) = ap suc (things-length xs)
+
+pub run-length : (b : Bank) (calls : List (For Op)) → length (run b calls) ≡ length calls
+unfolding run
+run-length b [] = refl
+run-length b (q ∷ qs) = ap suc (run-length (bankStep b (q .lane) (q .thing) .bank) qs)
+
+-- the one answer of a lane stands in its place
+pub answered-at : (b : Bank) (calls : List (For Op)) (ops : List Op) → calls ≡ inTurn 0 ops → (L : ℕ) (d : Answer) → L < length (run b calls)
+    → ofLane L (run b calls) ≡ getD (things (run b calls)) L d ∷ []
+answered-at b calls ops e L d h =
+    let turn : run b calls ≡ inTurn 0 (things (run b calls)) = rw e (run-turn ops b 0) in
+    let len = things-length (run b calls) in
+    ap (ofLane L) turn ∙ lane-of L (things (run b calls)) d (omega arith)
+
+-- ---- one controller
+
+-- a controller lies in lane L of a bank
+pub record Lies (L : ℕ) (b : Bank) (c : Single) : Type 0 where
+  pub eight : Eight b
+  pub here : laneAt b L ≡ laneOf c
+  pub good : Good c
+
+eight-after : (calls : List (For Op)) (b : Bank) → Eight b → Eight (after b calls)
+unfolding after
+eight-after [] b h = h
+eight-after (q ∷ qs) b h = eight-after qs (bankStep b (q .lane) (q .thing) .bank) (step-eight b (q .lane) (q .thing) h)
+
+good-after : (ops : List Op) (c : Single) → Good c → Good (singleAfter c ops)
+unfolding singleAfter
+good-after [] c g = g
+good-after (op ∷ ops) c g = good-after ops (singleStep c op .single) (step-as c op g .good)
+
+pub fresh-lies : (L : ℕ) → L ≤ 7 → Lies L freshBank none
+fresh-lies L h = record { eight = fresh-eight; here = fresh-closed L h; good = refl }
+
+-- after a run it has had the lane's calls
+pub lies-after : (L : ℕ) → L ≤ 7 → (calls : List (For Op)) (b : Bank) (c : Single) → Lies L b c → Lies L (after b calls) (singleAfter c (ofLane L calls))
+lies-after L h calls b c l =
+    record {
+      eight = eight-after calls b (l .eight);
+      here = apart L h calls b c (l .eight) (l .here) (l .good) .left;
+      good = good-after (ofLane L calls) c (l .good);
+    }
+
+-- the values that it answers
+unfoldable pub column : Single → List Op → List Float
+column c [] = []
+column c (op ∷ ops) = singleStep c op .answer .y ∷ column (singleStep c op .single) ops
+
+-- they depend on the calls so far
+pub column-same : (r : ℕ) (c : Single) (ops other : List Op) (d : Op) → r < length ops → r < length other
+    → ((q : ℕ) → q ≤ r → getD ops q d ≡ getD other q d) → getD (column c ops) r nan ≡ getD (column c other) r nan
+unfolding column
+column-same r c [] other d h g e = absurd (omega arith)
+column-same r c (op ∷ ops) [] d h g e = absurd (omega arith)
+column-same zero c (op ∷ ops) (o ∷ other) d h g e = let s : op ≡ o = e 0 (omega arith) in rw s
+column-same (suc r) c (op ∷ ops) (o ∷ other) d h g e =
+    let s : op ≡ o = e 0 (omega arith) in
+    rw s (column-same r (singleStep c o .single) ops other d (omega arith) (omega arith) (λ (q : ℕ) (l : q ≤ r). e (suc q) (omega arith)))
+
+-- ---- a row
+
+-- the update of lane L in a row
+unfoldable pub laneUpdate : Kind → ℕ → List ℕ → Op
+laneUpdate kind L s = updateOf kind (drop (L * (3 * cellWidth kind)) s)
+
+pub row-turn : (c : Course) (s : List ℕ) → rowCalls c s ≡ inTurn 0 (each (updateOf (c .kind)) (3 * cellWidth (c .kind)) (c .lanes) s)
+unfolding rowCalls
+row-turn c s = updates-turn (c .kind) (c .lanes) (c .lanes) 0 s (zero-add (c .lanes))
+
+pub row-of-lane : (c : Course) (s : List ℕ) (L : ℕ) → L < c .lanes → ofLane L (rowCalls c s) ≡ laneUpdate (c .kind) L s ∷ []
+unfolding laneUpdate
+row-of-lane c s L h = ap (ofLane L) (row-turn c s) ∙ lane-of-each (updateOf (c .kind)) (3 * cellWidth (c .kind)) (c .lanes) s L h
+
+-- what is printed for it is its controller's answer
+pub row-value : (c : Course) (s : List ℕ) (L : ℕ) (σ : Single) → L ≤ 7 → L < c .lanes → Lies L (c .bank) σ
+    → getD (valuesOf (run (c .bank) (rowCalls c s))) L nan ≡ singleStep σ (laneUpdate (c .kind) L s) .answer .y
+unfolding singleRun
+row-value c s L σ h l lies =
+    let b = c .bank in
+    let op = laneUpdate (c .kind) L s in
+    let d : Answer = plain Refusal.None in
+    let len : length (run b (rowCalls c s)) ≡ c .lanes = run-length b (rowCalls c s) ∙ row-count c s in
+    let told : ofLane L (run b (rowCalls c s)) ≡ getD (things (run b (rowCalls c s))) L d ∷ [] = answered-at b (rowCalls c s) _ (row-turn c s) L d (omega arith) in
+    let heard : ofLane L (run b (rowCalls c s)) ≡ singleStep σ op .answer ∷ [] = apart L h (rowCalls c s) b σ (lies .eight) (lies .here) (lies .good) .answers ∙ ap (singleRun σ) (row-of-lane c s L l) in
+    let same : getD (things (run b (rowCalls c s))) L d ≡ singleStep σ op .answer = cc in
+    value-at (run b (rowCalls c s)) L d (omega arith) ∙ ap (λ (a : Answer). a .y) same
+
+-- and after it its controller is updated
+pub row-lies : (c : Course) (s : List ℕ) (L : ℕ) (σ : Single) → L ≤ 7 → L < c .lanes → Lies L (c .bank) σ
+    → Lies L (after (c .bank) (rowCalls c s)) (singleStep σ (laneUpdate (c .kind) L s) .single)
+unfolding singleAfter
+row-lies c s L σ h l lies =
+    subst (λ (ops : List Op). Lies L (after (c .bank) (rowCalls c s)) (singleAfter σ ops)) (row-of-lane c s L l) (lies-after L h (rowCalls c s) (c .bank) σ lies)
+
+-- ---- the text
+
+pub line-word : (i : ℕ) (xs : List Float) (rest : List ℕ) → i < length xs → take 8 (drop (9 * i) (lineOf xs ++ rest)) ≡ wordOf (getD xs i nan)
+unfolding lineOf wordOf hexWord
+line-word i [] rest h = absurd (omega arith)
+line-word zero (x ∷ xs) rest h = refl
+line-word (suc i) (x ∷ xs) rest h =
+    let e : 9 * suc i ≡ suc (suc (suc (suc (suc (suc (suc (suc (suc (9 * i))))))))) = omega arith in
+    rw e (line-word i xs rest (omega arith))
+
+-- the updates of lane L in n rows of k lanes
+unfoldable pub laneUpdates : Kind → ℕ → ℕ → ℕ → List ℕ → List Op
+laneUpdates kind k L n s = each (laneUpdate kind L) (k * 3 * cellWidth kind) n s
+
+-- the digits of lane L in row r are those of its controller's r-th value
+pub rows-word : (r n : ℕ) (c : Course) (s : List ℕ) (L : ℕ) (σ : Single) (rest : List ℕ) → r < n → L ≤ 7 → L < c .lanes → Lies L (c .bank) σ
+    → take 8 (drop (r * (9 * c .lanes) + 9 * L) (nextRows n c s ++ rest)) ≡ wordOf (getD (column σ (laneUpdates (c .kind) (c .lanes) L n s)) r nan)
+unfolding nextRows rowLine rowOn rowWidth laneUpdates each column
+rows-word r zero c s L σ rest h a l lies = absurd (omega arith)
+rows-word zero (suc n) c s L σ rest h a l lies =
+    let len : length (valuesOf (run (c .bank) (rowCalls c s))) ≡ c .lanes = values-length (c .bank) (rowCalls c s) ∙ row-count c s in
+    rw (zero-mul (9 * c .lanes), zero-add (9 * L), append-assoc)
+    (line-word L (valuesOf (run (c .bank) (rowCalls c s))) _ (omega arith) ∙ ap wordOf (row-value c s L σ a l lies))
+rows-word (suc r) (suc n) c s L σ rest h a l lies =
+    let e : suc r * (9 * c .lanes) + 9 * L ≡ length (rowLine c s) + (r * (9 * c .lanes) + 9 * L) = omega (arith, suc-mul r (9 * c .lanes), row-length c s) in
+    rw (e, append-assoc, drop-append-add)
+    (rows-word r n (rowOn c (c .left - 1) s) (drop (rowWidth c) s) L (singleStep σ (laneUpdate (c .kind) L s) .single) rest (omega arith) a l (row-lies c s L σ a l lies))
+
+-- ---- cells by their row and column
+
+-- the cell in a row and a column of an array with so many columns
+unfoldable pub cellAt : Kind → ℕ → List ℕ → ℕ → ℕ → Float
+cellAt kind cols s row col = cellOf kind (drop ((row * cols + col) * cellWidth kind) s)
+
+place : (r k L c j w : ℕ) → r * (k * w) + L * (c * w) + j * w ≡ (r * k + (L * c + j)) * w
+place r k L c j w = simp (add-mul, mul-assoc, add-assoc)
+
+cell-place : (kind : Kind) (k L c r j : ℕ) (s : List ℕ)
+    → cellOf kind (drop (j * cellWidth kind) (drop (L * (c * cellWidth kind)) (drop (r * (k * cellWidth kind)) s))) ≡ cellAt kind k s r (L * c + j)
+unfolding cellAt
+cell-place kind k L c r j s =
+    rw (drop-drop (L * (c * cellWidth kind)) (r * (k * cellWidth kind)) s, drop-drop (j * cellWidth kind) _ s, place r k L c j (cellWidth kind))
+
+-- lane L's update in row r
+unfoldable pub updateAt : Kind → ℕ → List ℕ → ℕ → ℕ → Op
+updateAt kind k s L r = Update (cellAt kind (k * 3) s r (L * 3 + 0)) (cellAt kind (k * 3) s r (L * 3 + 1)) (cellAt kind (k * 3) s r (L * 3 + 2))
+
+updates-length : (kind : Kind) (k L n : ℕ) (s : List ℕ) → length (laneUpdates kind k L n s) ≡ n
+unfolding laneUpdates
+updates-length kind k L n s = each-length (laneUpdate kind L) (k * 3 * cellWidth kind) n s
+
+pub updates-at : (kind : Kind) (k L n : ℕ) (s : List ℕ) (r : ℕ) (d : Op) → r < n → getD (laneUpdates kind k L n s) r d ≡ updateAt kind k s L r
+unfolding laneUpdates laneUpdate updateOf updateAt
+updates-at kind k L n s r d h =
+    let w = cellWidth kind in
+    let e0 : 0 * w ≡ 0 = zero-mul w in
+    let e1 : 1 * w ≡ w = omega arith in
+    let e2 : 2 * w ≡ w + w = omega arith in
+    let c0 = cell-place kind (k * 3) L 3 r 0 s in
+    let c1 = cell-place kind (k * 3) L 3 r 1 s in
+    let c2 = cell-place kind (k * 3) L 3 r 2 s in
+    each-at (laneUpdate kind L) (k * 3 * w) n s r d h ∙ rw (← c0, ← c1, ← c2, e0, e1, e2)
+
+-- lane L's controller, new from its settings
+unfoldable pub controllerAt : List ℕ → ℕ → Single
+controllerAt s L = one (newRate (cellAt F4 5 s L 0) (cellAt F4 5 s L 1) (cellAt F4 5 s L 2) (cellAt F4 5 s L 3) (cellAt F4 5 s L 4))
+
+setting-at : (s : List ℕ) (L j : ℕ) → cellOf F4 (drop (j * 4) (drop (L * 20) s)) ≡ cellAt F4 5 s L j
+unfolding cellAt
+setting-at s L j = let e : (L * 5 + j) * 4 ≡ L * 20 + j * 4 = omega arith in rw (drop-drop (j * 4) (L * 20) s, e)
+
+opened-single : (s : List ℕ) (L : ℕ) → singleAfter none (openOf (drop (L * 20) s) ∷ []) ≡ controllerAt s L
+unfolding singleAfter singleStep newSingle openOf controllerAt
+opened-single s L =
+    rw (← setting-at s L 0, ← setting-at s L 1, ← setting-at s L 2, ← setting-at s L 3, ← setting-at s L 4)
+
+pub opened-lies : (k : ℕ) (s : List ℕ) (L : ℕ) → k ≤ 8 → L < k → Lies L (openedBank k s) (controllerAt s L)
+unfolding openedBank
+opened-lies k s L h l =
+    let calls = openCalls 0 (cellsOf F4 (k * 5) s) in
+    let own : ofLane L calls ≡ openOf (drop (L * 20) s) ∷ [] = ap (ofLane L) (opens-turn k 0 s) ∙ lane-of-each openOf 20 k s L l in
+    let low : L ≤ 7 = omega arith in
+    subst (λ (σ : Single). Lies L (after freshBank calls) σ) (ap (singleAfter none) own ∙ opened-single s L) (lies-after L low calls freshBank none (fresh-lies L low))
+
+-- ---- THE COLUMN THEOREM
+
+-- the data of a file's first array; the lanes and the kind of its second
+abbrev pub settingsOf : List ℕ → List ℕ
+settingsOf s = drop (headerOf s .at) s
+
+abbrev pub lanesOf : List ℕ → ℕ
+lanesOf s = startOf s .course .lanes
+
+abbrev pub cellKindOf : List ℕ → Kind
+cellKindOf s = startOf s .course .kind
+
+-- the digits of lane L in row r of what a file prints
+unfoldable pub printed : List ℕ → ℕ → ℕ → List ℕ
+printed s L r = take 8 (drop (r * (9 * lanesOf s) + 9 * L) (replayOf s))
+
+-- they are those of the r-th value of one controller that is made with the lane's settings and updated with the lane's cells
+pub column-theorem : (s : List ℕ) (m L r : ℕ) → refused (startOf s .refusal) ≡ false → Whole (startOf s .course) (rowsOf s) m → L < lanesOf s → r < m
+    → printed s L r ≡ wordOf (getD (column (controllerAt (settingsOf s) L) (laneUpdates (cellKindOf s) (lanesOf s) L m (rowsOf s))) r nan)
+unfolding printed
+column-theorem s m L r e w l h =
+    let g = started s e in
+    let few : lanesOf s ≤ 8 = rw (g .lanes) (g .settings .few) in
+    let own : L < headerOf s .rows = rw (g .lanes) at l in
+    let lies : Lies L (startOf s .course .bank) (controllerAt (settingsOf s) L) = rw (g .bank) (opened-lies (headerOf s .rows) (settingsOf s) L (g .settings .few) own) in
+    rw (accepted-prints s m e w) (rows-word r m (startOf s .course) (rowsOf s) L (controllerAt (settingsOf s) L) _ h (omega arith) l lies)
+
+-- two files have the same lane L: as many lanes, cells of one kind, equal settings of lane L, and in the first n rows equal cells of it
+pub record SameLane (s t : List ℕ) (L n : ℕ) : Type 0 where
+  pub lanes : lanesOf s ≡ lanesOf t
+  pub kind : cellKindOf s ≡ cellKindOf t
+  pub settings : (j : ℕ) → j < 5 → cellAt F4 5 (settingsOf s) L j ≡ cellAt F4 5 (settingsOf t) L j
+  pub cells : (r j : ℕ) → r < n → j < 3 → cellAt (cellKindOf s) (lanesOf s * 3) (rowsOf s) r (L * 3 + j) ≡ cellAt (cellKindOf t) (lanesOf t * 3) (rowsOf t) r (L * 3 + j)
+
+same-controller : (s t : List ℕ) (L n : ℕ) → SameLane s t L n → controllerAt (settingsOf s) L ≡ controllerAt (settingsOf t) L
+unfolding controllerAt
+same-controller s t L n e =
+    rw (e .settings 0 (omega arith), e .settings 1 (omega arith), e .settings 2 (omega arith), e .settings 3 (omega arith), e .settings 4 (omega arith))
+
+same-update : (s t : List ℕ) (L n r : ℕ) → SameLane s t L n → r < n → updateAt (cellKindOf s) (lanesOf s) (rowsOf s) L r ≡ updateAt (cellKindOf t) (lanesOf t) (rowsOf t) L r
+unfolding updateAt
+same-update s t L n r e h = rw (e .cells r 0 h (omega arith), e .cells r 1 h (omega arith), e .cells r 2 h (omega arith))
+
+-- then they print equal digits for it in each of these rows that both have whole, however the files end
+pub same-column : (s t : List ℕ) (L n m k r : ℕ) → refused (startOf s .refusal) ≡ false → refused (startOf t .refusal) ≡ false
+    → Whole (startOf s .course) (rowsOf s) m → Whole (startOf t .course) (rowsOf t) k → L < lanesOf s → SameLane s t L n → r < n → r < m → r < k
+    → printed s L r ≡ printed t L r
+same-column s t L n m k r es et ws wt l e hn hm hk =
+    column-theorem s m L r es ws l hm
+    ∙ ap wordOf (rw (same-controller s t L n e) (column-same r (controllerAt (settingsOf t) L) ops other d (omega (arith, ol)) (omega (arith, rl)) same))
+    ∙ sym (column-theorem t k L r et wt (rw (e .lanes) at l) hk)
+  where
+    d : Op
+    d = updateAt (cellKindOf s) (lanesOf s) (rowsOf s) L r
+
+    ops : List Op
+    ops = laneUpdates (cellKindOf s) (lanesOf s) L m (rowsOf s)
+
+    other : List Op
+    other = laneUpdates (cellKindOf t) (lanesOf t) L k (rowsOf t)
+
+    ol : length ops ≡ m
+    ol = updates-length (cellKindOf s) (lanesOf s) L m (rowsOf s)
+
+    rl : length other ≡ k
+    rl = updates-length (cellKindOf t) (lanesOf t) L k (rowsOf t)
+
+    same : (q : ℕ) → q ≤ r → getD ops q d ≡ getD other q d
+    same q h =
+        updates-at (cellKindOf s) (lanesOf s) L m (rowsOf s) q d (omega arith)
+        ∙ same-update s t L n q e (omega arith)
+        ∙ sym (updates-at (cellKindOf t) (lanesOf t) L k (rowsOf t) q d (omega arith))
+
+-- document 01: two accepted files with equal shapes, kind, lane L settings and lane L cells give equal L columns
+pub equal-columns : (s t : List ℕ) (L : ℕ) → Accepted s → Accepted t → startOf s .course .left ≡ startOf t .course .left → L < lanesOf s
+    → SameLane s t L (startOf s .course .left) → (r : ℕ) → r < startOf s .course .left → printed s L r ≡ printed t L r
+equal-columns s t L a b same l e r h =
+    same-column s t L (startOf s .course .left) (startOf s .course .left) (startOf t .course .left) r (a .start) (b .start) (accepted-all s a) (accepted-all t b) l e h h (omega arith)

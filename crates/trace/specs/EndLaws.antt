@@ -1,0 +1,115 @@
+-- The end of a text: a line is written whole or not at all. Assumes nothing.
+use mathlib.Core.Path.{_≡_, refl, sym, ap, _∙_}
+use mathlib.Core.List.{List, [], _∷_, _++_}
+use mathlib.Core.Bool.{Bool, true, false, cond}
+use Prim.Native.Nat.{ℕ, zero, suc, _+_, _-_, _*_, _/_, _%_, _≤_, _<_}
+use native.Mathlib.Numerals.{add-one}
+use native.Mathlib.Omega.{arith}
+use borrow.Author.Tests.{lt-ltb, le-ltb, le-leb, lt-leb}
+use lib.ListN.{length, getD, set, drop, drop-of-length-le}
+use lib.Seq.{sets, drop-cons}
+use Rattle.refusal.specs.declared.Refusal.{Refusal}
+use Rattle.refusal.specs.declared.Refusal.the-variants as Refusal
+use Rattle.refusal.specs.declared.Refusal.the-variants.{None, Range, Tau, Slew, Alpha, Points, Steps, Motor, Lane, Closed, Open, Magic, Header, Kind, Shape, Cut, Rest, RowSum, Window}
+use Rattle.refusal.specs.Refusal.{numberOf}
+use Rattle.trace.specs.declared.course.Course.{Course}
+use Rattle.trace.specs.Trace.{digits, refusedLine, restText}
+use Rattle.trace.specs.Slices.{endText, wrote, wroteCount}
+
+-- ---- a text written byte by byte
+
+pub text-more : (t l : List ℕ) (i o : ℕ) → i < length t → sets (set l o (getD t i 0)) (o + 1) (drop (i + 1) t) ≡ sets l o (drop i t)
+text-more t l i o h = rw (drop-cons t i 0 h, add-one i, add-one o)
+
+pub text-done : (t l : List ℕ) (i o : ℕ) → length t ≤ i → l ≡ sets l o (drop i t)
+text-done t l i o h = rw (drop-of-length-le t h)
+
+-- ---- whole or not at all
+
+module _ (out text : List ℕ) where
+  pub wrote-none : length out < length text → (0 ≡ wroteCount out text) × (out ≡ wrote out text)
+  unfolding wroteCount wrote
+  wrote-none h = (rw (lt-leb (length text) (length out) h), rw (lt-leb (length text) (length out) h))
+
+  pub wrote-all : (n : ℕ) (out′ : List ℕ) → n ≡ length text → n ≤ length out → out′ ≡ sets out 0 text → (n ≡ wroteCount out text) × (out′ ≡ wrote out text)
+  unfolding wroteCount wrote
+  wrote-all n out′ e h g =
+      let t : length text ≤ length out = rw e at h in
+      (e ∙ rw (le-leb (length text) (length out) t), g ∙ rw (le-leb (length text) (length out) t))
+
+-- ---- `refused N`
+
+pub number-small : (why : Refusal) → numberOf why ≤ 18
+number-small None = omega arith
+number-small Range = omega arith
+number-small Tau = omega arith
+number-small Slew = omega arith
+number-small Alpha = omega arith
+number-small Points = omega arith
+number-small Steps = omega arith
+number-small Motor = omega arith
+number-small Lane = omega arith
+number-small Closed = omega arith
+number-small Open = omega arith
+number-small Magic = omega arith
+number-small Header = omega arith
+number-small Kind = omega arith
+number-small Shape = omega arith
+number-small Cut = omega arith
+number-small Rest = omega arith
+number-small RowSum = omega arith
+number-small Window = omega arith
+
+-- `refused `
+abbrev pub head : List ℕ
+head = 114 ∷ 101 ∷ 102 ∷ 117 ∷ 115 ∷ 101 ∷ 100 ∷ 32 ∷ []
+
+pub one-digit : (why : Refusal) (n : ℕ) → n ≡ numberOf why → n < 10 → refusedLine why ≡ head ++ ((n + 48) ∷ 10 ∷ [])
+unfolding refusedLine digits
+one-digit why n e h = rw (← e, lt-ltb n 10 h)
+
+pub two-digits : (why : Refusal) (n : ℕ) → n ≡ numberOf why → 10 ≤ n → refusedLine why ≡ head ++ ((n / 10 + 48) ∷ (n % 10 + 48) ∷ 10 ∷ [])
+unfolding refusedLine digits
+two-digits why n e h = rw (← e, le-ltb n 10 h)
+
+module _ (why : Refusal) (n : ℕ) (e : n ≡ numberOf why) (out : List ℕ) where
+  pub one-short : n < 10 → length out < 10 → (0 ≡ wroteCount out (refusedLine why)) × (out ≡ wrote out (refusedLine why))
+  one-short h g = rw (one-digit why n e h) (wrote-none out (head ++ ((n + 48) ∷ 10 ∷ [])) g)
+
+  pub two-short : 10 ≤ n → length out < 11 → (0 ≡ wroteCount out (refusedLine why)) × (out ≡ wrote out (refusedLine why))
+  two-short h g = rw (two-digits why n e h) (wrote-none out (head ++ ((n / 10 + 48) ∷ (n % 10 + 48) ∷ 10 ∷ [])) g)
+
+  pub one-whole : (out′ : List ℕ) → n < 10 → 10 ≤ length out → out′ ≡ sets out 0 head
+      → (10 ≡ wroteCount out (refusedLine why)) × (set (set out′ 8 (n + 48)) 9 10 ≡ wrote out (refusedLine why))
+  one-whole out′ h g e′ = rw (one-digit why n e h) (wrote-all out (head ++ ((n + 48) ∷ 10 ∷ [])) 10 _ refl g (rw e′))
+
+  pub two-whole : (out′ : List ℕ) → 10 ≤ n → 11 ≤ length out → out′ ≡ sets out 0 head
+      → (11 ≡ wroteCount out (refusedLine why)) × (set (set (set out′ 8 (n / 10 + 48)) 9 (n % 10 + 48)) 10 10 ≡ wrote out (refusedLine why))
+  two-whole out′ h g e′ = rw (two-digits why n e h) (wrote-all out (head ++ ((n / 10 + 48) ∷ (n % 10 + 48) ∷ 10 ∷ [])) 11 _ refl g (rw e′))
+
+-- ---- after the last row
+
+rest-some : (s : List ℕ) → 0 < length s → restText s ≡ refusedLine Refusal.Rest
+unfolding restText
+rest-some [] h = absurd (omega arith)
+rest-some (x ∷ s) h = refl
+
+rest-none : (s : List ℕ) → length s ≤ 0 → restText s ≡ []
+unfolding restText
+rest-none [] h = refl
+rest-none (x ∷ s) h = absurd (omega arith)
+
+module _ (c : Course) (rest : List ℕ) where
+  pub end-cut : 0 < c .left → endText c rest ≡ refusedLine Refusal.Cut
+  unfolding endText
+  end-cut h = rw (lt-ltb 0 (c .left) h)
+
+  end-over : c .left ≤ 0 → endText c rest ≡ restText rest
+  unfolding endText
+  end-over h = rw (le-ltb 0 (c .left) h)
+
+  pub end-rest : c .left ≤ 0 → 0 < length rest → endText c rest ≡ refusedLine Refusal.Rest
+  end-rest h g = end-over h ∙ rest-some rest g
+
+  pub end-none : c .left ≤ 0 → length rest ≤ 0 → endText c rest ≡ []
+  end-none h g = end-over h ∙ rest-none rest g

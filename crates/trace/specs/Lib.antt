@@ -1,0 +1,9 @@
+pub mod Trace
+pub mod TraceLaws
+pub mod Windows
+pub mod Columns
+pub mod CodeLaws
+pub mod Slices
+pub mod RowsLaws
+pub mod EndLaws
+pub mod WholeLaws

@@ -1,0 +1,337 @@
+-- Laws of a replay's text: it can be cut after any number of whole rows; it is the whole rows and then one ending; every row's line is as
+-- long as every other. Assumes nothing.
+use mathlib.Core.Path.{_≡_, refl, sym, ap, _∙_}
+use mathlib.Core.List.{List, [], _∷_, _++_, append-assoc, append-nil}
+use mathlib.Core.Bool.{Bool, true, false, cond, _&&_}
+use mathlib.Core.Logic.{_⊎_, inl, inr, ⊎-elim}
+use Prim.Native.Nat.{ℕ, zero, suc, _+_, _-_, _*_, _/_, _≤_, _<_}
+use native.Mathlib.Nat.{suc-mul, zero-mul, add-comm, sub-zero, div-mul-le-self, lt-div-mul-add, le-trans, mul-le-mul-right}
+use native.Mathlib.Omega.{arith}
+use lib.ListN.{length, drop, length-drop, length-append}
+use lib.Seq.{drop-drop}
+use lib.Dec.{ltb, leb, eqb}
+use borrow.Author.Tests.{lt-ltb, le-ltb, ltb-true, ltb-false, leb-true, eqb-true, eqb-false}
+use Rattle.refusal.specs.declared.Refusal.{Refusal}
+use Rattle.refusal.specs.declared.Refusal.the-variants as Refusal
+use Rattle.refusal.specs.Refusal.{numberOf}
+use Rattle.npy.specs.declared.reader.Head.{Head}
+use Rattle.npy.specs.TextLaws.{and-left, and-right}
+use Rattle.npy.specs.declared.reader.Kind.{Kind}
+use Rattle.npy.specs.declared.reader.Kind.the-variants.{F4, I2, Other}
+use Rattle.npy.specs.Header.{cellWidth, accepted, headerOf}
+use Rattle.npy.specs.Cell.{cellOf, cellsOf, least}
+use Rattle.npy.specs.WordLaws.{line-length}
+use Rattle.bank.specs.declared.lane.Op.{Op}
+use Rattle.bank.specs.declared.lane.Op.the-variants.{Update}
+use Rattle.bank.specs.declared.Bank.{Bank}
+use Rattle.bank.specs.Bank.{bankStep}
+use Rattle.bank.specs.Runs.{For, for, run}
+use Rattle.bank.specs.Rows.{nextLane, updateCalls, valuesOf}
+use Rattle.trace.specs.declared.course.Course.{Course}
+use Rattle.trace.specs.Trace.{refused, isF4, isCell, settingsBytes, settingsRefusal, openedBank, traceRefusal, traceStart, refusedStart, startOf, replayOf, rowWidth, rowCalls, rowLine, rowOn, nextRows, onRows, refusedLine, restText, rowsText, courseText}
+
+-- ---- n rows are n rows, whatever is left: the trace after them
+
+pub on-kind : (n : ℕ) (c : Course) (s : List ℕ) → onRows n c s .kind ≡ c .kind
+unfolding onRows rowOn
+on-kind zero c s = refl
+on-kind (suc n) c s = on-kind n (rowOn c (c .left - 1) s) (drop (rowWidth c) s)
+
+pub on-lanes : (n : ℕ) (c : Course) (s : List ℕ) → onRows n c s .lanes ≡ c .lanes
+unfolding onRows rowOn
+on-lanes zero c s = refl
+on-lanes (suc n) c s = on-lanes n (rowOn c (c .left - 1) s) (drop (rowWidth c) s)
+
+pub on-left : (n : ℕ) (c : Course) (s : List ℕ) → onRows n c s .left ≡ c .left - n
+unfolding onRows rowOn
+on-left zero c s = sym (sub-zero (c .left))
+on-left (suc n) c s = on-left n (rowOn c (c .left - 1) s) (drop (rowWidth c) s) ∙ omega arith
+
+pub on-width : (n : ℕ) (c : Course) (s : List ℕ) → rowWidth (onRows n c s) ≡ rowWidth c
+unfolding rowWidth
+on-width n c s = rw (on-kind n c s, on-lanes n c s)
+
+-- ---- cutting after whole rows
+
+-- a row on, the width is the same
+pub width-on : (c : Course) (n : ℕ) (s : List ℕ) → rowWidth (rowOn c n s) ≡ rowWidth c
+unfolding rowWidth rowOn
+width-on c n s = refl
+
+row-whole : (n : ℕ) (c : Course) (s : List ℕ) → rowWidth c ≤ length s
+    → rowsText (suc n) c s ≡ rowLine c s ++ rowsText n (rowOn c n s) (drop (rowWidth c) s)
+unfolding rowsText
+row-whole n c s h = rw (le-ltb (length s) (rowWidth c) h)
+
+-- a whole row that is left is printed, and the trace goes on behind it
+pub row-cut : (c : Course) (s : List ℕ) → 0 < c .left → rowWidth c ≤ length s
+    → courseText c s ≡ rowLine c s ++ courseText (rowOn c (c .left - 1) s) (drop (rowWidth c) s)
+unfolding courseText rowOn
+row-cut c s hl hs = let e : c .left ≡ suc (c .left - 1) = omega arith in ap (λ (n : ℕ). rowsText n c s) e ∙ row-whole (c .left - 1) c s hs
+
+-- of the bytes of some rows, those after the first
+pub rows-on : (n w len : ℕ) → suc n * w ≤ len → (w ≤ len) × (n * w ≤ len - w)
+rows-on n w len h = let g : n * w + w ≤ len = rw suc-mul at h in (omega arith, omega arith)
+
+pub rows-cut : (n : ℕ) (c : Course) (s : List ℕ) → n ≤ c .left → n * rowWidth c ≤ length s
+    → courseText c s ≡ nextRows n c s ++ courseText (onRows n c s) (drop (n * rowWidth c) s)
+unfolding nextRows onRows rowOn
+rows-cut zero c s hl hs = rw zero-mul
+rows-cut (suc n) c s hl hs =
+    let w = rowWidth c in
+    let next : Course = rowOn c (c .left - 1) s in
+    let b = rows-on n w (length s) hs in
+    let l : n ≤ c .left - 1 = omega arith in
+    let m : n * rowWidth next ≤ length (drop w s) = rw (width-on c (c .left - 1) s, length-drop) (b .1) in
+    rw (row-cut c s (omega arith) (b .0), rows-cut n next (drop w s) l m, append-assoc, suc-mul, width-on c (c .left - 1) s, drop-drop, add-comm (n * w) w)
+
+-- ---- the whole rows, and then one ending
+
+-- what is printed after the whole rows, with so many rows still to come and these bytes
+unfoldable pub endText : ℕ → List ℕ → List ℕ
+endText zero s = restText s
+endText (suc n) s = refusedLine Refusal.Cut
+
+-- 15 where rows are missing
+pub end-cut : (n : ℕ) (s : List ℕ) → 0 < n → endText n s ≡ refusedLine Refusal.Cut
+unfolding endText
+end-cut zero s h = absurd (omega arith)
+end-cut (suc n) s h = refl
+
+-- 16 where there are bytes after the last row
+pub end-rest : (s : List ℕ) → 0 < length s → endText 0 s ≡ refusedLine Refusal.Rest
+unfolding endText restText
+end-rest [] h = absurd (omega arith)
+end-rest (x ∷ xs) h = refl
+
+-- else nothing
+pub end-none : (s : List ℕ) → length s ≡ 0 → endText 0 s ≡ []
+unfolding endText restText
+end-none [] h = refl
+end-none (x ∷ xs) h = absurd (omega arith)
+
+-- there is no whole row to print: none is left, or the bytes are too few for one
+abbrev pub Spent : Course → List ℕ → Type 0
+Spent c s = (c .left ≡ 0) ⊎ (length s < rowWidth c)
+
+pub spent-text : (c : Course) (s : List ℕ) → Spent c s → courseText c s ≡ endText (c .left) s
+unfolding courseText rowsText endText
+spent-text c s h = go (c .left) h
+  where
+    go : (n : ℕ) → (n ≡ 0) ⊎ (length s < rowWidth c) → rowsText n c s ≡ endText n s
+    go zero h = refl
+    go (suc n) h = ⊎-elim (λ (e : suc n ≡ 0). absurd (omega arith)) (λ (l : length s < rowWidth c). rw (lt-ltb (length s) (rowWidth c) l)) h
+
+-- m is the number of whole rows that the bytes have, and no more than are left
+pub record Whole (c : Course) (s : List ℕ) (m : ℕ) : Type 0 where
+  pub under : m ≤ c .left
+  pub fits : m * rowWidth c ≤ length s
+  pub all : (m ≡ c .left) ⊎ (length s < m * rowWidth c + rowWidth c)
+
+-- and then there is no other
+pub whole-spent : (c : Course) (s : List ℕ) (m : ℕ) → Whole c s m → Spent (onRows m c s) (drop (m * rowWidth c) s)
+whole-spent c s m w =
+    ⊎-elim
+    (λ (e : m ≡ c .left). inl (on-left m c s ∙ omega arith))
+    (λ (l : length s < m * rowWidth c + rowWidth c). inr (rw (length-drop, on-width m c s) (omega (arith, w .fits))))
+    (w .all)
+
+-- THE TEXT: the lines of the whole rows, and the ending
+pub whole-rows : (c : Course) (s : List ℕ) (m : ℕ) → Whole c s m → courseText c s ≡ nextRows m c s ++ endText (c .left - m) (drop (m * rowWidth c) s)
+whole-rows c s m w =
+    rows-cut m c s (w .under) (w .fits)
+    ∙ ap (λ (t : List ℕ). nextRows m c s ++ t) (spent-text (onRows m c s) (drop (m * rowWidth c) s) (whole-spent c s m w) ∙ rw (on-left m c s))
+
+-- there is such a number where a row has any bytes
+unfoldable pub wholeRows : Course → List ℕ → ℕ
+wholeRows c s = least (c .left) (length s / rowWidth c)
+
+pub whole-is : (c : Course) (s : List ℕ) → 0 < rowWidth c → Whole c s (wholeRows c s)
+unfolding wholeRows least
+whole-is c s h = go (ltb q (c .left)) refl
+  where
+    q : ℕ
+    q = length s / rowWidth c
+
+    fit : q * rowWidth c ≤ length s
+    fit = div-mul-le-self (length s) (rowWidth c)
+
+    go : (t : Bool) → ltb q (c .left) ≡ t → Whole c s (cond t q (c .left))
+    go true e = record { under = omega (arith, ltb-true q (c .left) e); fits = fit; all = inr (lt-div-mul-add h) }
+    go false e = record { under = omega arith; fits = le-trans (mul-le-mul-right (rowWidth c) (ltb-false q (c .left) e)) fit; all = inl refl }
+
+-- ---- the length of the text: 9 bytes a lane in every row
+
+pub values-length : (b : Bank) (calls : List (For Op)) → length (valuesOf (run b calls)) ≡ length calls
+unfolding run valuesOf
+values-length b [] = refl
+values-length b (q ∷ qs) = ap suc (values-length (bankStep b (q .lane) (q .thing) .bank) qs)
+
+-- what a lane is updated with: the three cells that a list begins with
+unfoldable pub updateOf : Kind → List ℕ → Op
+updateOf kind s = Update (cellOf kind s) (cellOf kind (drop (cellWidth kind) s)) (cellOf kind (drop (cellWidth kind + cellWidth kind) s))
+
+-- a lane's call comes of its three cells, and the other calls of the cells after them
+pub calls-more : (kind : Kind) (k lane n : ℕ) (s : List ℕ)
+    → updateCalls k lane (cellsOf kind (suc n * 3) s) ≡ for lane (updateOf kind s) ∷ updateCalls k (nextLane k lane) (cellsOf kind (n * 3) (drop (3 * cellWidth kind) s))
+unfolding updateOf cellsOf updateCalls
+calls-more kind k lane n s =
+    let w = cellWidth kind in
+    let e : suc n * 3 ≡ suc (suc (suc (n * 3))) = omega arith in
+    let f : 3 * w ≡ w + (w + w) = omega arith in
+    rw (e, f, ← drop-drop w w s, ← drop-drop (w + w) w s, ← drop-drop w w (drop w s))
+
+pub calls-length : (kind : Kind) (k lane n : ℕ) (s : List ℕ) → length (updateCalls k lane (cellsOf kind (n * 3) s)) ≡ n
+unfolding cellsOf updateCalls
+calls-length kind k lane zero s = refl
+calls-length kind k lane (suc n) s = ap length (calls-more kind k lane n s) ∙ ap suc (calls-length kind k (nextLane k lane) n (drop (3 * cellWidth kind) s))
+
+pub row-count : (c : Course) (s : List ℕ) → length (rowCalls c s) ≡ c .lanes
+unfolding rowCalls
+row-count c s = calls-length (c .kind) (c .lanes) 0 (c .lanes) s
+
+pub row-length : (c : Course) (s : List ℕ) → length (rowLine c s) ≡ 9 * c .lanes
+unfolding rowLine
+row-length c s = line-length (valuesOf (run (c .bank) (rowCalls c s))) ∙ ap (λ (n : ℕ). 9 * n) (values-length (c .bank) (rowCalls c s) ∙ row-count c s)
+
+-- so the line of row r begins at r * (9 * lanes)
+pub rows-length : (n : ℕ) (c : Course) (s : List ℕ) → length (nextRows n c s) ≡ n * (9 * c .lanes)
+unfolding nextRows rowOn
+rows-length zero c s = sym (zero-mul (9 * c .lanes))
+rows-length (suc n) c s =
+    length-append (rowLine c s) _ ∙ rw (row-length c s, rows-length n (rowOn c (c .left - 1) s) (drop (rowWidth c) s), suc-mul n (9 * c .lanes)) (add-comm _ _)
+
+-- ---- the start
+
+not-both : true ≡ false → ⊥
+not-both e = let z : _≡_ {A = ℕ} 0 1 = cc in omega arith
+
+-- a refusal that is given only where a test fails: it is not given, so the test holds, and no later refusal is given either
+not-given : (t : Bool) (x y : Refusal) → (t ≡ false → refused y ≡ true) → refused (cond t x y) ≡ false → (t ≡ true) × (refused x ≡ false)
+not-given true x y h e = (refl, e)
+not-given false x y h e = let z : true ≡ false = sym (h refl) ∙ e in ((cc), (cc))
+
+header-refused : (h : Head) → accepted h ≡ false → refused (h .refusal) ≡ true
+header-refused h e = let n : numberOf (h .refusal) ≡ 0 → ⊥ = eqb-false (numberOf (h .refusal)) 0 e in lt-ltb 0 (numberOf (h .refusal)) (omega arith)
+
+-- what an accepted first array is
+pub record Settings (h : Head) (len : ℕ) : Type 0 where
+  pub good : accepted h ≡ true
+  pub kind : isF4 (h .kind) ≡ true
+  pub some : 1 ≤ h .rows
+  pub few : h .rows ≤ 8
+  pub five : h .cols ≡ 5
+  pub fits : h .at + settingsBytes (h .rows) ≤ len
+
+pub settings-parts : (h : Head) (len : ℕ) → refused (settingsRefusal h len) ≡ false → Settings h len
+unfolding settingsRefusal
+settings-parts h len e =
+    let a = not-given (accepted h) _ (h .refusal) (header-refused h) e in
+    let b = not-given (isF4 (h .kind)) _ Refusal.Kind (λ x. refl) (a .1) in
+    let c = not-given (leb 1 (h .rows) && (leb (h .rows) 8 && eqb (h .cols) 5)) _ Refusal.Shape (λ x. refl) (b .1) in
+    let d = not-given (leb (h .at + settingsBytes (h .rows)) len) Refusal.None Refusal.Cut (λ x. refl) (c .1) in
+    let r = and-right (leb 1 (h .rows)) (leb (h .rows) 8 && eqb (h .cols) 5) (c .0) in
+    record {
+      good = a .0;
+      kind = b .0;
+      some = leb-true _ _ (and-left (leb 1 (h .rows)) (leb (h .rows) 8 && eqb (h .cols) 5) (c .0));
+      few = leb-true _ _ (and-left (leb (h .rows) 8) (eqb (h .cols) 5) r);
+      five = eqb-true _ _ (and-right (leb (h .rows) 8) (eqb (h .cols) 5) r);
+      fits = leb-true _ _ (d .0);
+    }
+
+-- what an accepted header of the trace is
+pub trace-parts : (k : ℕ) (h : Head) → refused (traceRefusal k h) ≡ false → (accepted h ≡ true) × (isCell (h .kind) ≡ true) × (h .cols ≡ k * 3)
+unfolding traceRefusal
+trace-parts k h e =
+    let a = not-given (accepted h) _ (h .refusal) (header-refused h) e in
+    let b = not-given (isCell (h .kind)) _ Refusal.Kind (λ x. refl) (a .1) in
+    let c = not-given (eqb (h .cols) (k * 3)) Refusal.None Refusal.Shape (λ x. refl) (b .1) in
+    (a .0, b .0, eqb-true _ _ (c .0))
+
+-- the first array's header, where the second begins, and its header
+abbrev pub firstHead : List ℕ → Head
+firstHead s = headerOf s
+
+abbrev pub secondAt : List ℕ → ℕ
+secondAt s = headerOf s .at + settingsBytes (headerOf s .rows)
+
+abbrev pub secondHead : List ℕ → Head
+secondHead s = headerOf (drop (secondAt s) s)
+
+-- an accepted start
+pub record Started (s : List ℕ) : Type 0 where
+  pub settings : Settings (firstHead s) (length s)
+  pub trace : (accepted (secondHead s) ≡ true) × (isCell (secondHead s .kind) ≡ true) × (secondHead s .cols ≡ firstHead s .rows * 3)
+  pub kind : startOf s .course .kind ≡ secondHead s .kind
+  pub lanes : startOf s .course .lanes ≡ firstHead s .rows
+  pub left : startOf s .course .left ≡ secondHead s .rows
+  pub bank : startOf s .course .bank ≡ openedBank (firstHead s .rows) (drop (firstHead s .at) s)
+  pub at : startOf s .at ≡ secondAt s + secondHead s .at
+
+pub started : (s : List ℕ) → refused (startOf s .refusal) ≡ false → Started s
+unfolding startOf traceStart refusedStart
+started s = first (refused (settingsRefusal (headerOf s) (length s))) refl (refused (traceRefusal (headerOf s .rows) (secondHead s))) refl
+  where
+    first : (t : Bool) → refused (settingsRefusal (headerOf s) (length s)) ≡ t → (u : Bool) → refused (traceRefusal (headerOf s .rows) (secondHead s)) ≡ u
+        → refused (startOf s .refusal) ≡ false → Started s
+    first true e u f h = absurd (not-both (simp e at h))
+    first false e true f h = absurd (not-both (simp (e, f) at h))
+    first false e false f h =
+        record {
+          settings = settings-parts (headerOf s) (length s) e;
+          trace = trace-parts (headerOf s .rows) (secondHead s) f;
+          kind = simp (e, f);
+          lanes = simp (e, f);
+          left = simp (e, f);
+          bank = simp (e, f);
+          at = simp (e, f);
+        }
+
+-- a row of an accepted trace has bytes
+pub some-bytes : (s : List ℕ) → Started s → 0 < rowWidth (startOf s .course)
+unfolding rowWidth
+some-bytes s g = rw (g .kind, g .lanes) (go (secondHead s .kind) (g .trace .1))
+  where
+    go : (kind : Kind) → isCell kind ≡ true → 0 < firstHead s .rows * 3 * cellWidth kind
+    go F4 e = omega (arith, g .settings .some)
+    go I2 e = omega (arith, g .settings .some)
+    go Other e = absurd (not-both (sym e))
+
+-- the bytes of its rows, and what comes after them
+abbrev pub rowsOf : List ℕ → List ℕ
+rowsOf s = drop (startOf s .at) s
+
+-- ---- THE WHOLE FILE: one whose start is refused prints its refusal alone
+
+pub refused-prints : (s : List ℕ) → refused (startOf s .refusal) ≡ true → replayOf s ≡ refusedLine (startOf s .refusal)
+unfolding replayOf
+refused-prints s e = simp e
+
+-- and one whose start is accepted the lines of its whole rows, and then the ending: 15 where rows are missing, 16 where bytes are left over, nothing else
+pub accepted-prints : (s : List ℕ) (m : ℕ) → refused (startOf s .refusal) ≡ false → Whole (startOf s .course) (rowsOf s) m
+    → replayOf s
+    ≡ nextRows m (startOf s .course) (rowsOf s)
+    ++ endText (startOf s .course .left - m) (drop (m * rowWidth (startOf s .course)) (rowsOf s))
+unfolding replayOf
+accepted-prints s m e w = simp e (whole-rows (startOf s .course) (rowsOf s) m w)
+
+-- a number of whole rows that is always there
+pub accepted-whole : (s : List ℕ) → refused (startOf s .refusal) ≡ false → Whole (startOf s .course) (rowsOf s) (wholeRows (startOf s .course) (rowsOf s))
+accepted-whole s e = whole-is (startOf s .course) (rowsOf s) (some-bytes s (started s e))
+
+-- nothing of the file is refused: its start is accepted, and it has the bytes of its rows and no more
+pub record Accepted (s : List ℕ) : Type 0 where
+  pub start : refused (startOf s .refusal) ≡ false
+  pub rows : length (rowsOf s) ≡ startOf s .course .left * rowWidth (startOf s .course)
+
+pub accepted-all : (s : List ℕ) → Accepted s → Whole (startOf s .course) (rowsOf s) (startOf s .course .left)
+accepted-all s a = record { under = omega arith; fits = omega (arith, a .rows); all = inl refl }
+
+-- it prints the lines of its rows and nothing else
+pub accepted-text : (s : List ℕ) → Accepted s → replayOf s ≡ nextRows (startOf s .course .left) (startOf s .course) (rowsOf s)
+accepted-text s a =
+    let c = startOf s .course in
+    let e : c .left - c .left ≡ 0 = omega arith in
+    let none : length (drop (c .left * rowWidth c) (rowsOf s)) ≡ 0 = rw length-drop (omega (arith, a .rows)) in
+    accepted-prints s (c .left) (a .start) (accepted-all s a) ∙ rw (e, end-none (drop (c .left * rowWidth c) (rowsOf s)) none, append-nil)

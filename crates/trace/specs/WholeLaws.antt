@@ -1,0 +1,479 @@
+-- A whole file: how long its text is, what it ends with, and that it is the text of its rows and then of its refusal. Assumes nothing.
+use mathlib.Core.Path.{_≡_, refl, sym, ap, _∙_, subst}
+use mathlib.Core.List.{List, [], _∷_, _++_, append-nil}
+use mathlib.Core.Bool.{Bool, true, false, cond, not, _&&_, true≢false}
+use Prim.Native.Nat.{ℕ, zero, suc, _+_, _-_, _*_, _/_, _≤_, _<_, _^_}
+use native.Mathlib.Nat.{suc-mul, zero-mul, mul-assoc, one-mul, pow-suc, pow-le-pow-right, mul-le-mul-right, lt-of-lt-of-le, le-trans, lt-div-mul-add, div-mul-le-self, div-eq-sub-div, mul-le-mul}
+use native.Mathlib.Omega.{arith}
+use borrow.Author.Tests.{ltb-true, ltb-false, leb-true, leb-false, lt-ltb, le-ltb, le-leb, lt-leb, eqb-false}
+use lib.Dec.{ltb, leb, eqb, lit<}
+use lib.Ieee.{Float}
+use lib.ListN.{length, set, take, drop, length-append, length-drop, take-append-drop, drop-of-length-le}
+use lib.Seq.{sets, length-sets, drop-drop, drop-set-add, take-set-le}
+use Rattle.refusal.specs.declared.Refusal.{Refusal}
+use Rattle.refusal.specs.declared.Refusal.the-variants as Refusal
+use Rattle.refusal.specs.Refusal.{numberOf}
+use Rattle.npy.specs.declared.reader.Kind.{Kind}
+use Rattle.npy.specs.declared.reader.Head.{Head}
+use Rattle.npy.specs.Text.{within, isDigit, lead, endOf, decimal, rowsAt, rowsEnd, placesOf, spelled}
+use Rattle.npy.specs.TextLaws.{and-left, and-right, number-size, spelled-parts}
+use Rattle.npy.specs.Header.{cellWidth, accepted, refusedHead, acceptedHead, textHead, textFits, textLength, headerW, widthOf, headerOf}
+use Rattle.npy.specs.HeaderLaws.{at-within, to-end}
+use Rattle.npy.specs.Cell.{least}
+use Rattle.npy.specs.CellLaws.{least-left, least-right}
+use Rattle.bank.specs.declared.Bank.{Bank}
+use Rattle.trace.specs.declared.course.Course.{Course}
+use Rattle.trace.specs.declared.course.Begun.{Begun}
+use Rattle.trace.specs.declared.course.Went.{Went}
+use Rattle.trace.specs.Trace.{refused, isCell, settingsRefusal, traceRefusal, refusedStart, traceStart, startOf, openedBank, rowWidth, rowLine, rowOn, nextRows, onRows, refusedLine, digits, restText, rowsText, courseText, replayOf}
+use Rattle.trace.specs.Slices.{laned, rowsFor, rowsIn, rowCells, rowValues, wentOf, endText, wrote, wroteCount, rowsRefusal, courseRefusal, replayRefusal, reasonText, replayedOf}
+use Rattle.trace.specs.CodeLaws.{settled}
+use Rattle.trace.specs.EndLaws.{one-digit, two-digits}
+use Rattle.npy.specs.WordLaws.{line-length}
+use Rattle.trace.specs.TraceLaws.{row-cut, rows-cut, on-left, on-kind, on-lanes, on-width}
+use Rattle.trace.specs.RowsLaws.{room, sets-append, row-length, laned-parts, width-range}
+
+-- ---- a header names fewer than 10⁹ rows
+
+digit-small : (x : ℕ) → isDigit x ≡ true → x - 0x30 ≤ 9
+unfolding within
+digit-small x h =
+    let r = and-right (leb 0x30 x) (leb x 0x39 && not (eqb x 0)) h in
+    let q : x ≤ 57 = leb-true x 0x39 (and-left (leb x 0x39) (not (eqb x 0)) r) in
+    omega arith
+
+-- n digits stand for a number below 10ⁿ
+decimal-small : (xs : List ℕ) (v : ℕ) → decimal v (take (lead isDigit xs) xs) < (v + 1) * 10 ^ lead isDigit xs
+unfolding decimal lead
+decimal-small [] v = omega arith
+decimal-small (x ∷ xs) v = go (isDigit x) refl (decimal-small xs (v * 10 + (x - 0x30)))
+  where
+    go : (t : Bool) → isDigit x ≡ t → decimal (v * 10 + (x - 0x30)) (take (lead isDigit xs) xs) < (v * 10 + (x - 0x30) + 1) * 10 ^ lead isDigit xs
+        → decimal v (take (cond t (lead isDigit xs + 1) 0) (x ∷ xs)) < (v + 1) * 10 ^ cond t (lead isDigit xs + 1) 0
+    go true e h =
+        let n = lead isDigit xs in
+        let a : lead isDigit xs + 1 ≡ suc (lead isDigit xs) = omega arith in
+        let d = digit-small x e in
+        let up : (v * 10 + (x - 0x30) + 1) * 10 ^ n ≤ (v + 1) * 10 * 10 ^ n = mul-le-mul-right (10 ^ n) (omega arith) in
+        let q : (v + 1) * 10 * 10 ^ n ≡ (v + 1) * (10 ^ n * 10) = mul-assoc (v + 1) 10 (10 ^ n) ∙ ap (λ (m : ℕ). (v + 1) * m) (omega arith) in
+        rw (a, pow-suc) (subst (λ (m : ℕ). decimal (v * 10 + (x - 0x30)) (take n xs) < m) q (lt-of-lt-of-le h up))
+    go false e h = omega arith
+
+few-text : (t : List ℕ) → spelled t (placesOf t) ≡ true → decimal 0 (take (rowsEnd t - rowsAt t) (drop (rowsAt t) t)) < 1000000000
+unfolding rowsEnd endOf
+few-text t h =
+    let n = lead isDigit (drop (rowsAt t) t) in
+    let a : rowsAt t + lead isDigit (drop (rowsAt t) t) - rowsAt t ≡ lead isDigit (drop (rowsAt t) t) = omega arith in
+    let size : n ≤ 9 = rw a at (number-size _ _ (spelled-parts t h .rows) .1) in
+    let small : (0 + 1) * 10 ^ n ≤ 10 ^ 9 = rw (one-mul (10 ^ n)) (pow-le-pow-right {n = 10} (lit< tt) {i = n} {j = 9} size) in
+    rw a (lt-of-lt-of-le (decimal-small (drop (rowsAt t) t) 0) small)
+
+rows-of : (b : Bool) (x y : Head) (n : ℕ) → (b ≡ true → x .rows < n) → y .rows < n → cond b x y .rows < n
+rows-of true x y n hx hy = hx refl
+rows-of false x y n hx hy = hy
+
+pub few-rows : (s : List ℕ) → headerOf s .rows < 1000000000
+unfolding headerOf headerW textHead acceptedHead refusedHead
+few-rows s =
+    let t = take (textLength (widthOf s) s) (drop (8 + widthOf s) s) in
+    rows-of (eqb (widthOf s) 0) _ _ _ (λ e. omega arith)
+    (rows-of (leb (8 + widthOf s) (length s) && textFits (textLength (widthOf s) s) (8 + widthOf s) (length s)) _ _ _
+    (λ e. rows-of (spelled t (placesOf t)) _ _ _ (λ f. few-text t f) (omega arith))
+    (omega arith))
+
+-- ---- what a start that is not refused is
+
+pub record Ready (b : Begun) (len : ℕ) : Type 0 where
+  pub lanes : laned (b .course .kind) (b .course .lanes) ≡ true
+  pub few : b .course .left < 1000000000
+  pub there : b .at ≤ len
+
+trace-cells : (k : ℕ) (h : Head) → refused (traceRefusal k h) ≡ false → isCell (h .kind) ≡ true
+unfolding traceRefusal
+trace-cells k h = go (accepted h) (isCell (h .kind)) refl
+  where
+    go : (a t : Bool) → accepted h ≡ a → refused (cond a (cond t (cond (eqb (h .cols) (k * 3)) Refusal.None Refusal.Shape) Refusal.Kind) (h .refusal)) ≡ false → t ≡ true
+    go true true e g = refl
+    go true false e g = absurd (true≢false g)
+    go false t e g = absurd (eqb-false (numberOf (h .refusal)) 0 e (omega (arith, ltb-false 0 (numberOf (h .refusal)) g)))
+
+lanes-are : (kind : Kind) (k : ℕ) → 1 ≤ k → k ≤ 8 → isCell kind ≡ true → laned kind k ≡ true
+unfolding laned
+lanes-are kind k a b h = rw (le-leb 1 k a, le-leb k 8 b) h
+
+trace-ready : (k at : ℕ) (b : Bank) (s : List ℕ) → 1 ≤ k → k ≤ 8 → at ≤ length s → refused (traceStart k b at s .refusal) ≡ false → Ready (traceStart k b at s) (length s)
+unfolding traceStart refusedStart
+trace-ready k at b s p q r = go (refused (traceRefusal k (headerOf (drop at s)))) refl
+  where
+    h : Head
+    h = headerOf (drop at s)
+
+    go : (t : Bool) → refused (traceRefusal k h) ≡ t
+        → refused (cond t (refusedStart (traceRefusal k h)) (record { refusal = Refusal.None; course = record { kind = h .kind; lanes = k; left = h .rows; bank = b }; at = at + h .at }) .refusal) ≡ false
+        → Ready (cond t (refusedStart (traceRefusal k h)) (record { refusal = Refusal.None; course = record { kind = h .kind; lanes = k; left = h .rows; bank = b }; at = at + h .at })) (length s)
+    go true e g = absurd (true≢false (sym e ∙ g))
+    go false e g =
+        let a : h .at ≤ length s - at = subst (λ (n : ℕ). headerOf (drop at s) .at ≤ n) (length-drop at s) (at-within (drop at s)) in
+        record { lanes = lanes-are (h .kind) k p q (trace-cells k h e); few = few-rows (drop at s); there = omega arith }
+
+pub ready : (s : List ℕ) → refused (startOf s .refusal) ≡ false → Ready (startOf s) (length s)
+unfolding startOf refusedStart
+ready s = go (refused (settingsRefusal h (length s))) refl
+  where
+    h : Head
+    h = headerOf s
+
+    next : Begun
+    next = traceStart (h .rows) (openedBank (h .rows) (drop (h .at) s)) (h .at + h .rows * 20) s
+
+    go : (t : Bool) → refused (settingsRefusal h (length s)) ≡ t → refused (cond t (refusedStart (settingsRefusal h (length s))) next .refusal) ≡ false
+        → Ready (cond t (refusedStart (settingsRefusal h (length s))) next) (length s)
+    go true e g = absurd (true≢false (sym e ∙ g))
+    go false e g =
+        let p = settled h (length s) e in
+        trace-ready (h .rows) (h .at + h .rows * 20) (openedBank (h .rows) (drop (h .at) s)) s (p .some) (p .few) (p .there) g
+
+-- ---- lengths
+
+row-line-length : (c : Course) (s : List ℕ) → length (rowLine c s) ≡ c .lanes * 9
+unfolding rowLine
+row-line-length c s = line-length _ ∙ rw (row-length c s) (omega arith)
+
+pub next-length : (n : ℕ) (c : Course) (s : List ℕ) → length (nextRows n c s) ≡ n * (c .lanes * 9)
+unfolding nextRows rowOn
+next-length zero c s = sym (zero-mul (c .lanes * 9))
+next-length (suc n) c s =
+    let a : suc n * (c .lanes * 9) ≡ c .lanes * 9 + n * (c .lanes * 9) = suc-mul n (c .lanes * 9) ∙ omega arith in
+    length-append (rowLine c s) (nextRows n (rowOn c (c .left - 1) s) (drop (rowWidth c) s))
+    ∙ rw (row-line-length c s, next-length n (rowOn c (c .left - 1) s) (drop (rowWidth c) s), a)
+
+-- ---- where no whole row is there any more
+
+over-text : (l : ℕ) (c : Course) (s : List ℕ) → (0 < l → length s < rowWidth c) → rowsText l c s ≡ cond (ltb 0 l) (refusedLine Refusal.Cut) (restText s)
+unfolding rowsText
+over-text zero c s h = refl
+over-text (suc l) c s h = rw (lt-ltb (length s) (rowWidth c) (h (omega arith)), lt-ltb 0 (suc l) (omega arith))
+
+pub over : (c : Course) (s : List ℕ) → (0 < c .left → length s < rowWidth c) → courseText c s ≡ endText c s
+unfolding courseText endText
+over c s h = over-text (c .left) c s h
+
+-- what is printed there is the line of what the trace is refused with
+over-reason : (l w : ℕ) (s : List ℕ) → (0 < l → length s < w) → cond (ltb 0 l) (refusedLine Refusal.Cut) (restText s) ≡ reasonText (rowsRefusal l w (length s))
+unfolding rowsRefusal reasonText restText
+over-reason zero w [] h = refl
+over-reason zero w (x ∷ s) h = rw (lt-ltb 0 (suc (length s)) (omega arith))
+over-reason (suc l) w s h = rw (lt-ltb (length s) w (h (omega arith)), lt-ltb 0 (suc l) (omega arith))
+
+refusal-short : (l w len : ℕ) → 0 < l → len < w → rowsRefusal l w len ≡ Refusal.Cut
+unfolding rowsRefusal
+refusal-short zero w len h g = absurd (omega arith)
+refusal-short (suc l) w len h g = rw (lt-ltb len w g)
+
+refusal-some : (l w len : ℕ) → l ≡ 0 → 0 < len → rowsRefusal l w len ≡ Refusal.Rest
+unfolding rowsRefusal
+refusal-some l w len h g = rw (h, lt-ltb 0 len g)
+
+refusal-none : (l w len : ℕ) → l ≡ 0 → len ≡ 0 → rowsRefusal l w len ≡ Refusal.None
+unfolding rowsRefusal
+refusal-none l w len h g = rw (h, g)
+
+-- n rows on, the same refusal
+refusal-cut : (n l w len : ℕ) → n ≤ l → n * w ≤ len → rowsRefusal l w len ≡ rowsRefusal (l - n) w (len - n * w)
+unfolding rowsRefusal
+refusal-cut zero l w len h g = let a : l - zero ≡ l = omega arith in let b : len - zero * w ≡ len = rw (zero-mul w) (omega arith) in rw (a, b)
+refusal-cut (suc n) zero w len h g = absurd (omega arith)
+refusal-cut (suc n) (suc l) w len h g =
+    let m : suc n * w ≡ n * w + w = suc-mul n w in
+    let a : len - suc n * w ≡ len - w - n * w = omega arith in
+    let b : suc l - suc n ≡ l - n = omega arith in
+    rw (le-ltb len w (omega arith), a, b) (refusal-cut n l w (len - w) (omega arith) (omega arith))
+
+-- ---- the whole rows that are there
+
+pub record Counted (left w len n : ℕ) : Type 0 where
+  pub to-come : n ≤ left
+  pub bytes : n * w ≤ len
+  pub over : 0 < left - n → len - n * w < w
+
+least-second : (a b n : ℕ) → n ≡ least a b → 0 < a - n → n ≡ b
+unfolding least
+least-second a b n = go (ltb b a)
+  where
+    go : (t : Bool) → n ≡ cond t b a → 0 < a - n → n ≡ b
+    go true e h = e
+    go false e h = absurd (omega arith)
+
+pub counted : (left w len n : ℕ) → 0 < w → n ≡ least left (len / w) → Counted left w len n
+counted left w len n h e = record { to-come = rw e (least-left left (len / w)); bytes = under; over = last }
+  where
+    under : n * w ≤ len
+    under = rw e (le-trans (mul-le-mul-right w (least-right left (len / w))) (div-mul-le-self len w))
+
+    last : 0 < left - n → len - n * w < w
+    last g =
+        let z : len < len / w * w + w = lt-div-mul-add h in
+        rw (least-second left (len / w) n e g) (omega arith)
+
+-- the text of a trace: that of its whole rows, and the line of what it is refused with
+module _ (c : Course) (s : List ℕ) (n : ℕ) (all : Counted (c .left) (rowWidth c) (length s) n) where
+  pub text-parts : courseText c s ≡ nextRows n c s ++ reasonText (courseRefusal c s)
+  unfolding courseRefusal endText
+  text-parts =
+      let c′ = onRows n c s in
+      let s′ = drop (n * rowWidth c) s in
+      let el : onRows n c s .left ≡ c .left - n = on-left n c s in
+      let ew : rowWidth (onRows n c s) ≡ rowWidth c = on-width n c s in
+      let es : length (drop (n * rowWidth c) s) ≡ length s - n * rowWidth c = length-drop (n * rowWidth c) s in
+      let short : 0 < onRows n c s .left → length (drop (n * rowWidth c) s) < rowWidth c = λ h. rw es (all .over (rw el at h)) in
+      let short′ : 0 < onRows n c s .left → length (drop (n * rowWidth c) s) < rowWidth (onRows n c s) = λ h. rw ew (short h) in
+      rows-cut n c s (all .to-come) (all .bytes)
+      ∙ ap (_++_ (nextRows n c s)) (over c′ s′ short′ ∙ over-reason (c′ .left) (rowWidth c) s′ short ∙ ap reasonText (rw (el, es) (sym (refusal-cut n (c .left) (rowWidth c) (length s) (all .to-come) (all .bytes)))))
+
+  pub text-length : length (courseText c s) ≡ n * (c .lanes * 9) + length (reasonText (courseRefusal c s))
+  text-length = ap length text-parts ∙ length-append (nextRows n c s) (reasonText (courseRefusal c s)) ∙ rw (next-length n c s)
+
+  -- which refusal it is
+  refusal-here : courseRefusal c s ≡ rowsRefusal (c .left - n) (rowWidth c) (length s - n * rowWidth c)
+  unfolding courseRefusal
+  refusal-here = refusal-cut n (c .left) (rowWidth c) (length s) (all .to-come) (all .bytes)
+
+  pub reason-cut : n < c .left → Refusal.Cut ≡ courseRefusal c s
+  reason-cut h = sym (refusal-here ∙ refusal-short _ _ _ (omega arith) (all .over (omega arith)))
+
+  pub reason-rest : c .left ≤ n → n * rowWidth c < length s → Refusal.Rest ≡ courseRefusal c s
+  reason-rest h g = sym (refusal-here ∙ refusal-some _ _ _ (omega arith) (omega arith))
+
+  pub reason-none : c .left ≤ n → length s ≤ n * rowWidth c → Refusal.None ≡ courseRefusal c s
+  reason-none h g = sym (refusal-here ∙ refusal-none _ _ _ (omega arith) (omega arith))
+
+-- ---- the loop that prints a trace
+
+-- a trace that has rows, and room for its text and for the work on a row
+pub record Printable (c : Course) (width : ℕ) (s : List ℕ) (cells values out : ℕ) : Type 0 where
+  pub lanes : laned (c .kind) (c .lanes) ≡ true
+  pub wide : width ≡ rowWidth c
+  pub triples : 24 ≤ cells
+  pub results : 8 ≤ values
+  pub fits : length (courseText c s) ≤ out
+
+-- what is written so far, and then the text from here on, is the text of the whole
+pub record Printing (s out₀ : List ℕ) (c₀ : Course) (out : List ℕ) (c : Course) (at o : ℕ) : Type 0 where
+  pub text : sets out o (courseText c (drop at s)) ≡ sets out₀ 0 (courseText c₀ s)
+  pub long : length out ≡ length out₀
+  pub fits : o + length (courseText c (drop at s)) ≤ length out₀
+  pub lanes : laned (c .kind) (c .lanes) ≡ true
+  pub width : rowWidth c ≡ rowWidth c₀
+  pub there : at ≤ length s
+
+-- a part of a slice that is written to from its start on
+sets-part : (vs l : List ℕ) (o i : ℕ) → take o l ++ sets (drop o l) i vs ≡ sets l (o + i) vs
+sets-part [] l o i = take-append-drop o l
+sets-part (v ∷ vs) l o i =
+    let e : suc (o + i) ≡ o + suc i = omega arith in
+    rw (e, ← drop-set-add o l i v, ← take-set-le o l (o + i) v (omega arith)) (sets-part vs (set l (o + i) v) o (suc i))
+
+part-put : (vs ys out : List ℕ) (o : ℕ) → ys ≡ sets (take (length out - o) (drop o out)) 0 vs
+    → take o out ++ (ys ++ drop (length out - o) (drop o out)) ≡ sets out o vs
+part-put vs ys out o e =
+    let ys′ : ys ≡ sets (drop o out) 0 vs = rw (to-end out o) at e in
+    let z : drop (length out - o) (drop o out) ≡ [] = drop-of-length-le (drop o out) {i = length out - o} (rw length-drop (omega arith)) in
+    let a : o + 0 ≡ o = omega arith in
+    rw (z, append-nil ys, ys′) (rw a at (sets-part vs out o 0))
+
+least-some : (a b : ℕ) → 0 < a → 0 < b → 0 < least a b
+unfolding least
+least-some a b h g = go (ltb b a)
+  where
+    go : (t : Bool) → 0 < cond t b a
+    go true = g
+    go false = h
+
+div-some : (a d : ℕ) → 0 < d → d ≤ a → 0 < a / d
+div-some a d h g = let e : a / d ≡ (a - d) / d + 1 = div-eq-sub-div h g in omega arith
+
+-- a row is there, and room for it: so at least one is taken
+some-rows : (kind : Kind) (k left window cells values out : ℕ) → laned kind k ≡ true → 0 < left → 0 < k * 3 * cellWidth kind → k * 3 * cellWidth kind ≤ window
+    → 24 ≤ cells → 8 ≤ values → k * 9 ≤ out → 0 < rowsFor kind k left window cells values out
+unfolding rowsFor
+some-rows kind k left window cells values out t l w0 w a b c =
+    let p = laned-parts kind k t in
+    let p0 : 1 ≤ k = p .0 in
+    let p1 : k ≤ 8 = p .1 in
+    rw t (least-some left _ l (least-some (window / (k * 3 * cellWidth kind)) _ (div-some window (k * 3 * cellWidth kind) w0 w) (least-some (cells / (k * 3)) _ (div-some cells (k * 3) (omega arith) (omega arith)) (least-some (values / k) (out / (k * 9)) (div-some values k (omega arith) (omega arith)) (div-some out (k * 9) (omega arith) c)))))
+
+row-bytes : (c : Course) (len : ℕ) → rowWidth c ≤ len → c .lanes * 3 * cellWidth (c .kind) ≤ len
+unfolding rowWidth
+row-bytes c len h = h
+
+rows-bytes : (c : Course) (n len : ℕ) → n * c .lanes * 3 * cellWidth (c .kind) ≤ len → n * rowWidth c ≤ len
+unfolding rowWidth
+rows-bytes c n len h = rw (← mul-assoc n (c .lanes * 3) (cellWidth (c .kind)), ← mul-assoc n (c .lanes) 3) h
+
+module _ (s out₀ : List ℕ) (c₀ : Course) (width cells values : ℕ) (ok : Printable c₀ width s cells values (length out₀)) where
+  pub print-start : Printing s out₀ c₀ out₀ c₀ 0 0
+  print-start = record { text = refl; long = refl; fits = let h = ok .fits in omega arith; lanes = ok .lanes; width = refl; there = omega arith }
+
+  -- n rows on
+  turned : (out : List ℕ) (c : Course) (at o n : ℕ) → Printing s out₀ c₀ out c at o → n ≤ c .left → n * rowWidth c ≤ length s - at
+      → Printing s out₀ c₀ (sets out o (nextRows n c (drop at s))) (onRows n c (drop at s)) (at + n * rowWidth c) (o + n * (c .lanes * 9))
+  turned out c at o n p h g =
+      let a = nextRows n c (drop at s) in
+      let b = courseText (onRows n c (drop at s)) (drop (at + n * rowWidth c) s) in
+      let al : length (nextRows n c (drop at s)) ≡ n * (c .lanes * 9) = next-length n c (drop at s) in
+      let g′ : n * rowWidth c ≤ length (drop at s) = rw length-drop g in
+      let cut : courseText c (drop at s) ≡ nextRows n c (drop at s) ++ courseText (onRows n c (drop at s)) (drop (at + n * rowWidth c) s) = rw drop-drop at (rows-cut n c (drop at s) h g′) in
+      let len : length (courseText c (drop at s)) ≡ n * (c .lanes * 9) + length b = ap length cut ∙ length-append a b ∙ rw al in
+      let f = p .fits in
+      let th = p .there in
+      record {
+        text = rw (← al) (sym (sets-append a b out o)) ∙ ap (sets out o) (sym cut) ∙ p .text;
+        long = length-sets out o a ∙ p .long;
+        fits = omega arith;
+        lanes = rw (on-kind n c (drop at s), on-lanes n c (drop at s)) (p .lanes);
+        width = on-width n c (drop at s) ∙ p .width;
+        there = omega arith;
+      }
+
+  -- a row is there, and room for it
+  some-taken : (out : List ℕ) (c : Course) (at o : ℕ) → Printing s out₀ c₀ out c at o → 0 < c .left → width ≤ length s - at → 0 < rowsIn c (length (drop at s)) cells values (length (drop o out))
+  some-taken out c at o p h g =
+      let ew : rowWidth c ≡ width = p .width ∙ sym (ok .wide) in
+      let ls : length (drop at s) ≡ length s - at = length-drop at s in
+      let lo : length (drop o out) ≡ length out - o = length-drop o out in
+      let w : rowWidth c ≤ length (drop at s) = omega arith in
+      let cut : length (courseText c (drop at s)) ≡ c .lanes * 9 + length (courseText (rowOn c (c .left - 1) (drop at s)) (drop (rowWidth c) (drop at s))) =
+      ap length (row-cut c (drop at s) h w) ∙ length-append (rowLine c (drop at s)) _ ∙ rw (row-line-length c (drop at s)) in
+      let f = p .fits in
+      let l = p .long in
+      some-rows (c .kind) (c .lanes) (c .left) (length (drop at s)) cells values (length (drop o out)) (p .lanes) h (width-range (c .kind) (c .lanes) (cellWidth (c .kind)) true (sym (p .lanes)) refl refl .0) (row-bytes c (length (drop at s)) w) (ok .triples) (ok .results) (omega arith)
+
+  -- the rows that a turn takes
+  pub turn : (out ys : List ℕ) (c : Course) (at o : ℕ) (went : Went) (t : Bool) → Printing s out₀ c₀ out c at o → t ≡ (ltb 0 (c .left) && leb width (length s - at)) → t ≡ true
+      → went ≡ wentOf (rowsIn c (length (take (length s - at) (drop at s))) cells values (length (take (length out - o) (drop o out)))) c (take (length s - at) (drop at s))
+      → ys ≡ sets (take (length out - o) (drop o out)) 0 (nextRows (went .rows) c (take (length s - at) (drop at s)))
+      → Printing s out₀ c₀ (take o out ++ (ys ++ drop (length out - o) (drop o out))) (went .course) (at + went .taken) (o + went .written) × (went .course .left < c .left)
+  unfolding wentOf
+  turn out ys c at o went t p et h ew ey =
+      let m : (ltb 0 (c .left) && leb width (length s - at)) ≡ true = sym et ∙ h in
+      let h0 : 0 < c .left = ltb-true 0 (c .left) (and-left (ltb 0 (c .left)) (leb width (length s - at)) m) in
+      let h1 : width ≤ length s - at = leb-true width (length s - at) (and-right (ltb 0 (c .left)) (leb width (length s - at)) m) in
+      let n = rowsIn c (length (drop at s)) cells values (length (drop o out)) in
+      let some : 0 < n = some-taken out c at o p h0 h1 in
+      let fits = room (c .kind) (c .lanes) (c .left) (length (drop at s)) cells values (length (drop o out)) n refl in
+      let ls : length (drop at s) ≡ length s - at = length-drop at s in
+      let by : n * rowWidth c ≤ length s - at = subst (λ (x : ℕ). n * rowWidth c ≤ x) ls (rows-bytes c n (length (drop at s)) (fits .bytes)) in
+      let ew′ : went ≡ wentOf n c (drop at s) = rw (to-end s at, to-end out o) at ew in
+      let ey′ : ys ≡ sets (take (length out - o) (drop o out)) 0 (nextRows n c (drop at s)) = ey ∙ rw (to-end s at, ew′) in
+      let put = part-put (nextRows n c (drop at s)) ys out o ey′ in
+      let left : onRows n c (drop at s) .left ≡ c .left - n = on-left n c (drop at s) in
+      (rw (ew′, put) (turned out c at o n p (fits .to-come) by), rw ew′ (omega arith))
+
+  -- no row is there any more: what is still to be written is the end
+  pub printed : (out ys : List ℕ) (c : Course) (at o : ℕ) (t : Bool) → Printing s out₀ c₀ out c at o → t ≡ (ltb 0 (c .left) && leb width (length s - at)) → t ≡ false
+      → ys ≡ wrote (take (length out - o) (drop o out)) (endText c (take (length s - at) (drop at s)))
+      → take o out ++ (ys ++ drop (length out - o) (drop o out)) ≡ sets out₀ 0 (courseText c₀ s)
+  unfolding wrote
+  printed out ys c at o t p et h ey =
+      let m : (ltb 0 (c .left) && leb width (length s - at)) ≡ false = sym et ∙ h in
+      let ls : length (drop at s) ≡ length s - at = length-drop at s in
+      let lo : length (drop o out) ≡ length out - o = length-drop o out in
+      let ew : rowWidth c ≡ width = p .width ∙ sym (ok .wide) in
+      let short : 0 < c .left → length (drop at s) < rowWidth c = λ g. rw (ls, ew) (leb-false width (length s - at) (sym (rw (lt-ltb 0 (c .left) g) at (sym m)))) in
+      let e : courseText c (drop at s) ≡ endText c (drop at s) = over c (drop at s) short in
+      let f = p .fits in
+      let l = p .long in
+      let ok : length (endText c (drop at s)) ≤ length (drop o out) = rw (← e) (omega arith) in
+      let ey′ : ys ≡ sets (take (length out - o) (drop o out)) 0 (courseText c (drop at s)) = ey ∙ rw (to-end s at, to-end out o, le-leb _ _ ok, e) in
+      part-put (courseText c (drop at s)) ys out o ey′ ∙ p .text
+
+pub printable-still : (c : Course) (width : ℕ) (s : List ℕ) (a b out a′ b′ : ℕ) → Printable c width s a b out → a′ ≡ a → b′ ≡ b → Printable c width s a′ b′ out
+printable-still c width s a b out a′ b′ p e f = rw (e, f) p
+
+pub cells-still : (l a : List Float) (n : ℕ) (c : Course) (s : List ℕ) → a ≡ sets l 0 (rowCells n c s) → length a ≡ length l
+cells-still l a n c s e = ap length e ∙ length-sets l 0 (rowCells n c s)
+
+pub values-still : (l a : List Float) (n : ℕ) (c : Course) (s : List ℕ) → a ≡ sets l 0 (rowValues n c s) → length a ≡ length l
+values-still l a n c s e = ap length e ∙ length-sets l 0 (rowValues n c s)
+
+-- ---- how long the line of a refusal is
+
+module _ (why : Refusal) (n : ℕ) (e : n ≡ numberOf why) where
+  pub no-line : n < 1 → (0 ≡ length (reasonText why)) × (0 ≤ 11)
+  unfolding reasonText
+  no-line h = (rw (← e, le-ltb 0 n (omega arith)), omega arith)
+
+  pub short-line : 1 ≤ n → n < 10 → (10 ≡ length (reasonText why)) × (10 ≤ 11)
+  unfolding reasonText
+  short-line h g = (rw (← e, lt-ltb 0 n h, one-digit why n e g), omega arith)
+
+  pub long-line : 10 ≤ n → (11 ≡ length (reasonText why)) × (11 ≤ 11)
+  unfolding reasonText
+  long-line g = (rw (← e, lt-ltb 0 n (omega arith), two-digits why n e g), omega arith)
+
+-- ---- the answer for a whole trace
+
+module _ (why why′ : Refusal) (need : ℕ) (text out : List ℕ) (e : why ≡ why′) (l : need ≡ length text) where
+  pub replayed-short : length out < need → (record { refusal = why; need = need; whole = false } ≡ replayedOf why′ text out) × (out ≡ wrote out text)
+  unfolding replayedOf wrote
+  replayed-short h =
+      let g : length out < length text = rw l at h in
+      (rw (e, l, lt-leb _ _ g), rw (lt-leb _ _ g))
+
+  pub replayed-whole : (out′ : List ℕ) → need ≤ length out → out′ ≡ sets out 0 text → (record { refusal = why; need = need; whole = true } ≡ replayedOf why′ text out) × (out′ ≡ wrote out text)
+  unfolding replayedOf wrote
+  replayed-whole out′ h o =
+      let g : length text ≤ length out = rw l at h in
+      (rw (e, l, le-leb _ _ g), o ∙ rw (le-leb _ _ g))
+
+module _ (c : Course) (s : List ℕ) (w n : ℕ) (t : laned (c .kind) (c .lanes) ≡ true) (ew : w ≡ cellWidth (c .kind)) (en : n ≡ least (c .left) (length s / (c .lanes * 3 * w))) where
+  pub width-is : c .lanes * 3 * w ≡ rowWidth c
+  unfolding rowWidth
+  width-is = rw ew
+
+  pub width-some : (0 < c .lanes * 3 * w) × (c .lanes * 3 * w ≤ 96)
+  width-some = width-range (c .kind) (c .lanes) w true (sym t) refl ew
+
+  pub all-counted : Counted (c .left) (rowWidth c) (length s) n
+  all-counted = counted (c .left) (rowWidth c) (length s) n (subst (λ (x : ℕ). 0 < x) width-is (width-some .0)) (rw width-is at en)
+
+  pub used-fits : n * (c .lanes * 3 * w) ≤ length s
+  used-fits = rw width-is (all-counted .bytes)
+
+  pub reason-is : (why : Refusal) → why ≡ cond (ltb n (c .left)) Refusal.Cut (cond (ltb (n * (c .lanes * 3 * w)) (length s)) Refusal.Rest Refusal.None) → why ≡ courseRefusal c s
+  reason-is why e = go (ltb n (c .left)) (ltb (n * (c .lanes * 3 * w)) (length s)) refl refl e
+    where
+      go : (p q : Bool) → ltb n (c .left) ≡ p → ltb (n * (c .lanes * 3 * w)) (length s) ≡ q → why ≡ cond p Refusal.Cut (cond q Refusal.Rest Refusal.None) → why ≡ courseRefusal c s
+      go true q ep eq h = h ∙ reason-cut c s n all-counted (ltb-true _ _ ep)
+      go false true ep eq h = h ∙ reason-rest c s n all-counted (ltb-false _ _ ep) (rw width-is at (ltb-true (n * (c .lanes * 3 * w)) (length s) eq))
+      go false false ep eq h = h ∙ reason-none c s n all-counted (ltb-false _ _ ep) (rw width-is at (ltb-false (n * (c .lanes * 3 * w)) (length s) eq))
+
+  pub need-is : (why : Refusal) (r : ℕ) → why ≡ courseRefusal c s → r ≡ length (reasonText why) → n * (c .lanes * 9) + r ≡ length (courseText c s)
+  need-is why r e er = rw (er, e) (sym (text-length c s n all-counted))
+
+  -- far from the largest number
+  pub need-fits : c .left < 1000000000 → n * (c .lanes * 9) ≤ 72000000000
+  need-fits h =
+      let p1 : c .lanes ≤ 8 = laned-parts (c .kind) (c .lanes) t .1 in
+      let nl : n ≤ c .left = all-counted .to-come in
+      mul-le-mul {n₁ = n} {m₁ = c .lanes * 9} {n₂ = 1000000000} {m₂ = 72} (omega arith) (omega arith)
+
+pub whole-refused : (s : List ℕ) (b : Begun) (t : Bool) → b ≡ startOf s → t ≡ refused (b .refusal) → t ≡ true → (replayRefusal s ≡ b .refusal) × (replayOf s ≡ refusedLine (b .refusal))
+unfolding replayRefusal replayOf
+whole-refused s b t e et h = let g : refused (startOf s .refusal) ≡ true = rw (← e, ← et) h in (rw (g, e), rw (g, e))
+
+pub whole-trace : (s : List ℕ) (b : Begun) (t : Bool) → b ≡ startOf s → t ≡ refused (b .refusal) → t ≡ false
+    → (replayRefusal s ≡ courseRefusal (b .course) (take (length s - b .at) (drop (b .at) s))) × (replayOf s ≡ courseText (b .course) (take (length s - b .at) (drop (b .at) s)))
+unfolding replayRefusal replayOf
+whole-trace s b t e et h = let g : refused (startOf s .refusal) ≡ false = rw (← e, ← et) h in (rw (to-end s (b .at), g, e), rw (to-end s (b .at), g, e))
+
+pub ready-from : (s : List ℕ) (b : Begun) (t : Bool) → b ≡ startOf s → t ≡ refused (b .refusal) → t ≡ false → Ready b (length s)
+ready-from s b t e et h = rw e (ready s (rw (← e, ← et) h))
+
+pub refused-answer : (why : Refusal) (need n : ℕ) (out out′ : List ℕ) → refused why ≡ true → need ≡ length (reasonText why)
+    → (n ≡ wroteCount out (refusedLine why)) × (out′ ≡ wrote out (refusedLine why))
+    → (record { refusal = why; need = need; whole = leb need (length out) } ≡ replayedOf why (refusedLine why) out) × (out′ ≡ wrote out (refusedLine why))
+unfolding reasonText replayedOf
+refused-answer why need n out out′ h e w =
+    let l : need ≡ length (refusedLine why) = e ∙ rw h in
+    (rw l, w .1)

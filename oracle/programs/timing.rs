@@ -1,0 +1,56 @@
+//! Runs of updates on the same cells, timed in turn. Their answers must be the same numbers.
+
+use std::hint::black_box;
+use std::process::exit;
+use std::time::Instant;
+
+/// Settings, cells, answers.
+pub type Run = fn(&[f32], &[f32], &mut [f32]);
+
+/// A function of the project's library: a slice is its place and its length on the way across.
+pub type Linked = unsafe extern "C" fn(*const f32, usize, *const f32, usize, *mut f32, usize);
+
+pub fn call(linked: Linked, s: &[f32], cells: &[f32], out: &mut [f32]) {
+    // Sound because both sides hold to the lengths.
+    unsafe { linked(s.as_ptr(), s.len(), cells.as_ptr(), cells.len(), out.as_mut_ptr(), out.len()) }
+}
+
+const UPDATES: usize = 4096;
+const TURNS: usize = 2000;
+const SETTINGS: [f32; 5] = [0.3, 0.5, 0.02, 0.01, 0.004];
+
+/// A flight-like signal from a small generator; now and then out of the calm range, so that both ways of the integral are taken.
+fn cells() -> Vec<f32> {
+    let mut seed = 1u32;
+    let cell = |i| {
+        seed = seed.wrapping_mul(1664525).wrapping_add(1013904223);
+        let noise = (seed >> 8) as f32 / 16777216.0 - 0.5;
+        (i as f32 / 900.0).sin() * 1.05 + noise * 0.1
+    };
+    (0..UPDATES * 3).map(cell).collect()
+}
+
+/// The first run is what the others are measured by.
+pub fn compare(runs: &[(&str, Run)]) {
+    let cells = cells();
+    let mut outs = vec![vec![0.0f32; UPDATES]; runs.len()];
+    let mut times: Vec<Vec<f64>> = vec![Vec::new(); runs.len()];
+    for _ in 0..TURNS {
+        for (k, (_, run)) in runs.iter().enumerate() {
+            let start = Instant::now();
+            run(black_box(&SETTINGS), black_box(&cells), black_box(&mut outs[k]));
+            times[k].push(start.elapsed().as_nanos() as f64 / UPDATES as f64);
+        }
+    }
+    let bits = |v: &Vec<f32>| v.iter().map(|x| x.to_bits()).collect::<Vec<u32>>();
+    if outs.iter().any(|o| bits(o) != bits(&outs[0])) {
+        println!("the answers differ");
+        exit(1);
+    }
+    times.iter_mut().for_each(|t| t.sort_by(f64::total_cmp));
+    let middle = |k: usize| times[k][TURNS / 2];
+    for (k, (name, _)) in runs.iter().enumerate() {
+        let times_rust = middle(k) / middle(0);
+        println!("{name:10} {:6.2} ns an update (middle of {TURNS} turns; shortest {:.2}), {times_rust:.2} times the Rust's", middle(k), times[k][0]);
+    }
+}

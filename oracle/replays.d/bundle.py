@@ -1,0 +1,73 @@
+"""The files that the gate replays: document 01's example and both sides of each edge. Each comes after its length, and the Rust answers each."""
+
+import random
+import subprocess
+import sys
+
+import numpy as np
+
+from cases import KINDS, VERSIONS, cells, header_ends, settings, written
+
+
+def text_as(file, at, old, new):
+    """The header at a place with other text, its length kept by the spaces before the line feed."""
+    first, second, data = header_ends(file)
+    end = first if at == 0 else data
+    head = file[at:end].replace(old, new, 1)
+    extra = len(head) - (end - at)
+    head = head[:-1].rstrip(b" ") + b" " * (len(head) - 1 - len(head[:-1].rstrip(b" ")) - extra) + b"\n"
+    return file[:at] + head + file[end:]
+
+
+def files():
+    rng = random.Random(5)
+    one = written(np.array([[1, 1, 0, 0, 1]], dtype="<f4"), (1, 0))
+    three = np.array([[0.5, 0.25, 0.75], [0.5, 0.25, 1.25], [1, 0.25, 5]], dtype="<f4")
+    example = one + written(three, (1, 0))
+    assert len(example) == 312
+    yield example
+    yield b""
+    yield one + written(three[:0], (1, 0))
+    for kind in KINDS:
+        for first in VERSIONS:
+            for second in VERSIONS:
+                for lanes in (1, 2, 3, 8):
+                    yield written(settings(rng, lanes), first) + written(cells(rng, kind, rng.randint(0, 30), lanes), second)
+    # Refusals 11 to 16, on either array.
+    both = written(settings(rng, 2), (1, 0)) + written(cells(rng, "<i2", 3, 2), (2, 0))
+    first, second, data = header_ends(both)
+    for at in (0, second):
+        for place in range(8):
+            yield both[: at + place]  # under 8 bytes
+            yield both[: at + place] + bytes([both[at + place] ^ 1]) + both[at + place + 1 :]  # magic and version
+        yield both[: at + 9]  # the length is cut off
+        yield both[: at + 60]  # and the text
+        for n in (0, 1, 1000, 1001, 65535):
+            yield both[: at + 8] + n.to_bytes(2, "little") + both[at + 10 :]
+        for old, new in ((b", 'fortran", b",'fortran"), (b"False", b"True"), (b"'descr'", b'"descr"'), (b", }", b",}"), (b"(", b"(0"), (b", }", b", } ."), (b")", b",)")):
+            yield text_as(both, at, old, new)
+        for name in (b"<f8", b">f4", b"<i4", b"<f4", b"<i2", b"<U1234567890123", b"<U12345678901234", b"<U123456789012345", b""):
+            yield text_as(both, at, b"<f4" if at == 0 else b"<i2", name)
+        for shape in (b"(0, 5)", b"(9, 5)", b"(2, 4)", b"(2, 6)", b"(3, 6)", b"(4, 6)", b"(999999999, 6)", b"(1000000000, 6)", b"(1, 5)", b"(3, 3)"):
+            yield text_as(both, at, b"(2, 5)" if at == 0 else b"(3, 6)", shape)
+    for n in (first, first + 1, second - 1, data, data + 1, data + 11, data + 12, data + 13, len(both) - 1):
+        yield both[:n]  # data cut off
+    for extra in (1, 12, 128):
+        yield both + bytes(extra)
+    # Each cell of two bytes on its edges.
+    yield one + written(np.array([[-32768, 32767, 0], [-1, 1, -32767], [1000, -1000, 999]], dtype="<i2"), (1, 0))
+    # NaN of many patterns, infinities, the smallest and the largest.
+    odd = np.array([0x7FC00000, 0xFFC00001, 0x7F800001, 0x7F800000, 0xFF800000, 1, 0x80000001, 0x7F7FFFFF, 0x80000000], dtype="<u4").view("<f4")
+    yield one + written(odd.reshape(3, 3), (1, 0))
+
+
+def main():
+    folder, rust = sys.argv[1:]
+    with open(f"{folder}/stdin", "wb") as to, open(f"{folder}/stdout", "wb") as want:
+        for file in files():
+            to.write(len(file).to_bytes(4, "little") + file)
+            want.write(subprocess.run([rust], input=file, stdout=subprocess.PIPE, check=True).stdout + b"--\n")
+
+
+if __name__ == "__main__":
+    main()
