@@ -1,4 +1,4 @@
-//! The time of one lane's update in rows of eight: the Rust's array of controllers, and the project's bank by rows.
+//! The time of one lane's update in rows of eight: the Rust's array of controllers, and the project's bank by rows and by one call an update.
 
 mod timing;
 
@@ -7,6 +7,7 @@ use timing::{call, compare};
 
 extern "C" {
     fn plumradek_rows(s: *const f32, ns: usize, cells: *const f32, n: usize, out: *mut f32, no: usize);
+    fn plumradek_calls(s: *const f32, ns: usize, cells: *const f32, n: usize, out: *mut f32, no: usize);
 }
 
 #[inline(never)]
@@ -20,5 +21,9 @@ fn rust(s: &[f32], cells: &[f32], out: &mut [f32]) {
 }
 
 fn main() {
-    compare(&[("Rust", rust), ("by rows", |s, cells, out| call(plumradek_rows, s, cells, out))]);
+    compare(&[
+        ("Rust", rust),
+        ("by rows", |s, cells, out| call(plumradek_rows, s, cells, out)),
+        ("by calls", |s, cells, out| call(plumradek_calls, s, cells, out)),
+    ]);
 }

@@ -19,7 +19,8 @@ fn opened(s: &[f32], b: Bank, lane: usize) -> Bank
     next.bank
 }
 
-fn eight(s: &[f32]) -> Bank
+// A fresh bank with all eight lanes opened, each with the same settings.
+pub fn eight(s: &[f32]) -> Bank
     ensures { λ r. ⌜ r ≡ eightOf (now (s .entry)) ⌝ }
 {
     let b0 = opened(s, Bank::fresh(), 0);
