@@ -3,6 +3,7 @@
 import argparse
 import collections
 import itertools
+import os
 import random
 import subprocess
 import sys
@@ -71,9 +72,10 @@ def main():
             ends[ended(want)] += 1
             if want != got:
                 differ += 1
-                with open("build/differs.npy.bin", "wb") as to:
+                kept = os.path.join(os.path.dirname(o.rust), "differs.npy.bin")
+                with open(kept, "wb") as to:
                     to.write(file)
-                print(f"{name} {i}: the answers differ; the file is in build/differs.npy.bin")
+                print(f"{name} {i}: the answers differ; the file is kept as {kept}")
         print(f"{name}: {count} files, " + ", ".join(f"{n} {end}" for end, n in sorted(ends.items())))
     pool = damaged(rng)
     for i in range(o.pieces):

@@ -1,8 +1,7 @@
 -- The end of a text: a line is written whole or not at all. Assumes nothing.
-use mathlib.Core.Path.{_≡_, refl, sym, ap, _∙_}
+use mathlib.Core.Path.{_≡_, refl, ap, _∙_}
 use mathlib.Core.List.{List, [], _∷_, _++_}
-use mathlib.Core.Bool.{Bool, true, false, cond}
-use Prim.Native.Nat.{ℕ, zero, suc, _+_, _-_, _*_, _/_, _%_, _≤_, _<_}
+use Prim.Native.Nat.{ℕ, _+_, _/_, _%_, _≤_, _<_}
 use native.Mathlib.Numerals.{add-one}
 use native.Mathlib.Omega.{arith}
 use borrow.Author.Tests.{lt-ltb, le-ltb, le-leb, lt-leb}
@@ -13,8 +12,9 @@ use Rattle.refusal.specs.declared.Refusal.the-variants as Refusal
 use Rattle.refusal.specs.declared.Refusal.the-variants.{None, Range, Tau, Slew, Alpha, Points, Steps, Motor, Lane, Closed, Open, Magic, Header, Kind, Shape, Cut, Rest, RowSum, Window}
 use Rattle.refusal.specs.Refusal.{numberOf}
 use Rattle.trace.specs.declared.course.Course.{Course}
-use Rattle.trace.specs.Trace.{digits, refusedLine, restText}
-use Rattle.trace.specs.Slices.{endText, wrote, wroteCount}
+use Rattle.trace.specs.Trace.{digits, refusedLine, endText}
+use Rattle.trace.specs.TraceLaws as T
+use Rattle.trace.specs.Slices.{wrote, wroteCount}
 
 -- ---- a text written byte by byte
 
@@ -89,27 +89,15 @@ module _ (why : Refusal) (n : ℕ) (e : n ≡ numberOf why) (out : List ℕ) whe
 
 -- ---- after the last row
 
-rest-some : (s : List ℕ) → 0 < length s → restText s ≡ refusedLine Refusal.Rest
-unfolding restText
-rest-some [] h = absurd (omega arith)
-rest-some (x ∷ s) h = refl
-
-rest-none : (s : List ℕ) → length s ≤ 0 → restText s ≡ []
-unfolding restText
-rest-none [] h = refl
-rest-none (x ∷ s) h = absurd (omega arith)
-
 module _ (c : Course) (rest : List ℕ) where
-  pub end-cut : 0 < c .left → endText c rest ≡ refusedLine Refusal.Cut
-  unfolding endText
-  end-cut h = rw (lt-ltb 0 (c .left) h)
+  pub end-cut : 0 < c .left → endText (c .left) rest ≡ refusedLine Refusal.Cut
+  end-cut h = T.end-cut (c .left) rest h
 
-  end-over : c .left ≤ 0 → endText c rest ≡ restText rest
-  unfolding endText
-  end-over h = rw (le-ltb 0 (c .left) h)
+  end-over : c .left ≤ 0 → endText (c .left) rest ≡ endText 0 rest
+  end-over h = let e : c .left ≡ 0 = omega arith in ap (λ (n : ℕ). endText n rest) e
 
-  pub end-rest : c .left ≤ 0 → 0 < length rest → endText c rest ≡ refusedLine Refusal.Rest
-  end-rest h g = end-over h ∙ rest-some rest g
+  pub end-rest : c .left ≤ 0 → 0 < length rest → endText (c .left) rest ≡ refusedLine Refusal.Rest
+  end-rest h g = end-over h ∙ T.end-rest rest g
 
-  pub end-none : c .left ≤ 0 → length rest ≤ 0 → endText c rest ≡ []
-  end-none h g = end-over h ∙ rest-none rest g
+  pub end-none : c .left ≤ 0 → length rest ≤ 0 → endText (c .left) rest ≡ []
+  end-none h g = end-over h ∙ T.end-none rest (omega arith)

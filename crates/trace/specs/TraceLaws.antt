@@ -10,6 +10,7 @@ use native.Mathlib.Omega.{arith}
 use lib.ListN.{length, drop, length-drop, length-append}
 use lib.Seq.{drop-drop}
 use lib.Dec.{ltb, leb, eqb}
+use lib.Ieee.{Float}
 use borrow.Author.Tests.{lt-ltb, le-ltb, ltb-true, ltb-false, leb-true, eqb-true, eqb-false}
 use Rattle.refusal.specs.declared.Refusal.{Refusal}
 use Rattle.refusal.specs.declared.Refusal.the-variants as Refusal
@@ -20,6 +21,7 @@ use Rattle.npy.specs.declared.reader.Kind.{Kind}
 use Rattle.npy.specs.declared.reader.Kind.the-variants.{F4, I2, Other}
 use Rattle.npy.specs.Header.{cellWidth, accepted, headerOf}
 use Rattle.npy.specs.Cell.{cellOf, cellsOf, least}
+use Rattle.npy.specs.CellLaws.{cells-length}
 use Rattle.npy.specs.WordLaws.{line-length}
 use Rattle.bank.specs.declared.lane.Op.{Op}
 use Rattle.bank.specs.declared.lane.Op.the-variants.{Update}
@@ -28,7 +30,7 @@ use Rattle.bank.specs.Bank.{bankStep}
 use Rattle.bank.specs.Runs.{For, for, run}
 use Rattle.bank.specs.Rows.{nextLane, updateCalls, valuesOf}
 use Rattle.trace.specs.declared.course.Course.{Course}
-use Rattle.trace.specs.Trace.{refused, isF4, isCell, settingsBytes, settingsRefusal, openedBank, traceRefusal, traceStart, refusedStart, startOf, replayOf, rowWidth, rowCalls, rowLine, rowOn, nextRows, onRows, refusedLine, restText, rowsText, courseText}
+use Rattle.trace.specs.Trace.{refused, isF4, isCell, settingsBytes, settingsRefusal, openedBank, traceRefusal, traceStart, refusedStart, startOf, replayOf, rowWidth, rowCalls, rowLine, rowOn, nextRows, onRows, refusedLine, restText, endText, rowsText, courseText}
 
 -- ---- n rows are n rows, whatever is left: the trace after them
 
@@ -86,11 +88,6 @@ rows-cut (suc n) c s hl hs =
     rw (row-cut c s (omega arith) (b .0), rows-cut n next (drop w s) l m, append-assoc, suc-mul, width-on c (c .left - 1) s, drop-drop, add-comm (n * w) w)
 
 -- ---- the whole rows, and then one ending
-
--- what is printed after the whole rows, with so many rows still to come and these bytes
-unfoldable pub endText : ℕ → List ℕ → List ℕ
-endText zero s = restText s
-endText (suc n) s = refusedLine Refusal.Cut
 
 -- 15 where rows are missing
 pub end-cut : (n : ℕ) (s : List ℕ) → 0 < n → endText n s ≡ refusedLine Refusal.Cut
@@ -181,14 +178,18 @@ calls-more kind k lane n s =
     let f : 3 * w ≡ w + (w + w) = omega arith in
     rw (e, f, ← drop-drop w w s, ← drop-drop (w + w) w s, ← drop-drop w w (drop w s))
 
-pub calls-length : (kind : Kind) (k lane n : ℕ) (s : List ℕ) → length (updateCalls k lane (cellsOf kind (n * 3) s)) ≡ n
-unfolding cellsOf updateCalls
-calls-length kind k lane zero s = refl
-calls-length kind k lane (suc n) s = ap length (calls-more kind k lane n s) ∙ ap suc (calls-length kind k (nextLane k lane) n (drop (3 * cellWidth kind) s))
+-- a whole number of triples makes as many calls
+pub calls-length : (k lane m : ℕ) (cells : List Float) → length cells ≡ m * 3 → length (updateCalls k lane cells) ≡ m
+unfolding updateCalls
+calls-length k lane m [] h = omega arith
+calls-length k lane m (r ∷ []) h = absurd (omega arith)
+calls-length k lane m (r ∷ (p ∷ [])) h = absurd (omega arith)
+calls-length k lane zero (r ∷ (p ∷ (q ∷ cells))) h = absurd (omega arith)
+calls-length k lane (suc m) (r ∷ (p ∷ (q ∷ cells))) h = ap suc (calls-length k (nextLane k lane) m cells (omega arith))
 
 pub row-count : (c : Course) (s : List ℕ) → length (rowCalls c s) ≡ c .lanes
 unfolding rowCalls
-row-count c s = calls-length (c .kind) (c .lanes) 0 (c .lanes) s
+row-count c s = calls-length (c .lanes) 0 (c .lanes) (cellsOf (c .kind) (c .lanes * 3) s) (cells-length (c .kind) (c .lanes * 3) s)
 
 pub row-length : (c : Course) (s : List ℕ) → length (rowLine c s) ≡ 9 * c .lanes
 unfolding rowLine

@@ -2,11 +2,14 @@
 use mathlib.Core.Path.{_≡_, refl, sym, ap, _∙_, subst}
 use mathlib.Core.List.{List, [], _∷_, _++_, append-nil}
 use mathlib.Core.Bool.{Bool, true, false, cond, not, _&&_, true≢false}
-use Prim.Native.Nat.{ℕ, zero, suc, _+_, _-_, _*_, _/_, _≤_, _<_, _^_}
-use native.Mathlib.Nat.{suc-mul, zero-mul, mul-assoc, one-mul, pow-suc, pow-le-pow-right, mul-le-mul-right, lt-of-lt-of-le, le-trans, lt-div-mul-add, div-mul-le-self, div-eq-sub-div, mul-le-mul}
+use Prim.Native.Nat.{ℕ, zero, suc, _+_, _-_, _*_, _/_, _≤_, _<_}
+use mathlib.Core.Logic.{⊎-elim, inl, inr}
+use Rattle.npy.specs.TextLaws.{lt-or-le}
+use Rattle.npy.specs.HeaderStart.{shape-small}
+use native.Mathlib.Nat.{suc-mul, zero-mul, mul-assoc, mul-comm, mul-le-mul-right, le-trans, lt-div-mul-add, div-mul-le-self, div-eq-sub-div, mul-le-mul}
 use native.Mathlib.Omega.{arith}
 use borrow.Author.Tests.{ltb-true, ltb-false, leb-true, leb-false, lt-ltb, le-ltb, le-leb, lt-leb, eqb-false}
-use lib.Dec.{ltb, leb, eqb, lit<}
+use lib.Dec.{ltb, leb, eqb}
 use lib.Ieee.{Float}
 use lib.ListN.{length, set, take, drop, length-append, length-drop, take-append-drop, drop-of-length-le}
 use lib.Seq.{sets, length-sets, drop-drop, drop-set-add, take-set-le}
@@ -15,71 +18,30 @@ use Rattle.refusal.specs.declared.Refusal.the-variants as Refusal
 use Rattle.refusal.specs.Refusal.{numberOf}
 use Rattle.npy.specs.declared.reader.Kind.{Kind}
 use Rattle.npy.specs.declared.reader.Head.{Head}
-use Rattle.npy.specs.Text.{within, isDigit, lead, endOf, decimal, rowsAt, rowsEnd, placesOf, spelled}
-use Rattle.npy.specs.TextLaws.{and-left, and-right, number-size, spelled-parts}
-use Rattle.npy.specs.Header.{cellWidth, accepted, refusedHead, acceptedHead, textHead, textFits, textLength, headerW, widthOf, headerOf}
-use Rattle.npy.specs.HeaderLaws.{at-within, to-end}
+use Rattle.npy.specs.TextLaws.{and-left, and-right}
+use Rattle.npy.specs.Header.{cellWidth, accepted, refusedHead, headerOf}
+use Rattle.npy.specs.HeaderLaws.{at-within, to-end, refused-is}
 use Rattle.npy.specs.Cell.{least}
 use Rattle.npy.specs.CellLaws.{least-left, least-right}
 use Rattle.bank.specs.declared.Bank.{Bank}
 use Rattle.trace.specs.declared.course.Course.{Course}
 use Rattle.trace.specs.declared.course.Begun.{Begun}
 use Rattle.trace.specs.declared.course.Went.{Went}
-use Rattle.trace.specs.Trace.{refused, isCell, settingsRefusal, traceRefusal, refusedStart, traceStart, startOf, openedBank, rowWidth, rowLine, rowOn, nextRows, onRows, refusedLine, digits, restText, rowsText, courseText, replayOf}
-use Rattle.trace.specs.Slices.{laned, rowsFor, rowsIn, rowCells, rowValues, wentOf, endText, wrote, wroteCount, rowsRefusal, courseRefusal, replayRefusal, reasonText, replayedOf}
+use Rattle.trace.specs.Trace.{refused, isCell, settingsRefusal, traceRefusal, refusedStart, traceStart, startOf, openedBank, rowWidth, rowLine, rowOn, nextRows, onRows, refusedLine, restText, endText, courseText, replayOf}
+use Rattle.trace.specs.Slices.{laned, rowsFor, rowsIn, rowCells, rowValues, wentOf, wrote, wroteCount, rowsRefusal, courseRefusal, replayRefusal, reasonText, replayedOf}
 use Rattle.trace.specs.CodeLaws.{settled}
 use Rattle.trace.specs.EndLaws.{one-digit, two-digits}
-use Rattle.npy.specs.WordLaws.{line-length}
-use Rattle.trace.specs.TraceLaws.{row-cut, rows-cut, on-left, on-kind, on-lanes, on-width}
-use Rattle.trace.specs.RowsLaws.{room, sets-append, row-length, laned-parts, width-range}
+use Rattle.trace.specs.TraceLaws.{row-length, rows-length, spent-text, row-cut, rows-cut, on-left, on-kind, on-lanes, on-width}
+use Rattle.trace.specs.RowsLaws.{room, sets-append, laned-parts, width-range}
 
--- ---- a header names fewer than 10⁹ rows
-
-digit-small : (x : ℕ) → isDigit x ≡ true → x - 0x30 ≤ 9
-unfolding within
-digit-small x h =
-    let r = and-right (leb 0x30 x) (leb x 0x39 && not (eqb x 0)) h in
-    let q : x ≤ 57 = leb-true x 0x39 (and-left (leb x 0x39) (not (eqb x 0)) r) in
-    omega arith
-
--- n digits stand for a number below 10ⁿ
-decimal-small : (xs : List ℕ) (v : ℕ) → decimal v (take (lead isDigit xs) xs) < (v + 1) * 10 ^ lead isDigit xs
-unfolding decimal lead
-decimal-small [] v = omega arith
-decimal-small (x ∷ xs) v = go (isDigit x) refl (decimal-small xs (v * 10 + (x - 0x30)))
-  where
-    go : (t : Bool) → isDigit x ≡ t → decimal (v * 10 + (x - 0x30)) (take (lead isDigit xs) xs) < (v * 10 + (x - 0x30) + 1) * 10 ^ lead isDigit xs
-        → decimal v (take (cond t (lead isDigit xs + 1) 0) (x ∷ xs)) < (v + 1) * 10 ^ cond t (lead isDigit xs + 1) 0
-    go true e h =
-        let n = lead isDigit xs in
-        let a : lead isDigit xs + 1 ≡ suc (lead isDigit xs) = omega arith in
-        let d = digit-small x e in
-        let up : (v * 10 + (x - 0x30) + 1) * 10 ^ n ≤ (v + 1) * 10 * 10 ^ n = mul-le-mul-right (10 ^ n) (omega arith) in
-        let q : (v + 1) * 10 * 10 ^ n ≡ (v + 1) * (10 ^ n * 10) = mul-assoc (v + 1) 10 (10 ^ n) ∙ ap (λ (m : ℕ). (v + 1) * m) (omega arith) in
-        rw (a, pow-suc) (subst (λ (m : ℕ). decimal (v * 10 + (x - 0x30)) (take n xs) < m) q (lt-of-lt-of-le h up))
-    go false e h = omega arith
-
-few-text : (t : List ℕ) → spelled t (placesOf t) ≡ true → decimal 0 (take (rowsEnd t - rowsAt t) (drop (rowsAt t) t)) < 1000000000
-unfolding rowsEnd endOf
-few-text t h =
-    let n = lead isDigit (drop (rowsAt t) t) in
-    let a : rowsAt t + lead isDigit (drop (rowsAt t) t) - rowsAt t ≡ lead isDigit (drop (rowsAt t) t) = omega arith in
-    let size : n ≤ 9 = rw a at (number-size _ _ (spelled-parts t h .rows) .1) in
-    let small : (0 + 1) * 10 ^ n ≤ 10 ^ 9 = rw (one-mul (10 ^ n)) (pow-le-pow-right {n = 10} (lit< tt) {i = n} {j = 9} size) in
-    rw a (lt-of-lt-of-le (decimal-small (drop (rowsAt t) t) 0) small)
-
-rows-of : (b : Bool) (x y : Head) (n : ℕ) → (b ≡ true → x .rows < n) → y .rows < n → cond b x y .rows < n
-rows-of true x y n hx hy = hx refl
-rows-of false x y n hx hy = hy
-
+-- a header names fewer than 10⁹ rows; refused, none
 pub few-rows : (s : List ℕ) → headerOf s .rows < 1000000000
-unfolding headerOf headerW textHead acceptedHead refusedHead
-few-rows s =
-    let t = take (textLength (widthOf s) s) (drop (8 + widthOf s) s) in
-    rows-of (eqb (widthOf s) 0) _ _ _ (λ e. omega arith)
-    (rows-of (leb (8 + widthOf s) (length s) && textFits (textLength (widthOf s) s) (8 + widthOf s) (length s)) _ _ _
-    (λ e. rows-of (spelled t (placesOf t)) _ _ _ (λ f. few-text t f) (omega arith))
-    (omega arith))
+unfolding refusedHead
+few-rows s = go (accepted (headerOf s)) refl
+  where
+    go : (t : Bool) → accepted (headerOf s) ≡ t → headerOf s .rows < 1000000000
+    go true e = shape-small s e .0
+    go false e = let z : headerOf s .rows ≡ 0 = ap (λ (h : Head). h .rows) (refused-is s e) in omega arith
 
 -- ---- what a start that is not refused is
 
@@ -136,34 +98,22 @@ ready s = go (refused (settingsRefusal h (length s))) refl
 -- ---- lengths
 
 row-line-length : (c : Course) (s : List ℕ) → length (rowLine c s) ≡ c .lanes * 9
-unfolding rowLine
-row-line-length c s = line-length _ ∙ rw (row-length c s) (omega arith)
+row-line-length c s = row-length c s ∙ mul-comm 9 (c .lanes)
 
 pub next-length : (n : ℕ) (c : Course) (s : List ℕ) → length (nextRows n c s) ≡ n * (c .lanes * 9)
-unfolding nextRows rowOn
-next-length zero c s = sym (zero-mul (c .lanes * 9))
-next-length (suc n) c s =
-    let a : suc n * (c .lanes * 9) ≡ c .lanes * 9 + n * (c .lanes * 9) = suc-mul n (c .lanes * 9) ∙ omega arith in
-    length-append (rowLine c s) (nextRows n (rowOn c (c .left - 1) s) (drop (rowWidth c) s))
-    ∙ rw (row-line-length c s, next-length n (rowOn c (c .left - 1) s) (drop (rowWidth c) s), a)
+next-length n c s = rows-length n c s ∙ ap (λ (m : ℕ). n * m) (mul-comm 9 (c .lanes))
 
 -- ---- where no whole row is there any more
 
-over-text : (l : ℕ) (c : Course) (s : List ℕ) → (0 < l → length s < rowWidth c) → rowsText l c s ≡ cond (ltb 0 l) (refusedLine Refusal.Cut) (restText s)
-unfolding rowsText
-over-text zero c s h = refl
-over-text (suc l) c s h = rw (lt-ltb (length s) (rowWidth c) (h (omega arith)), lt-ltb 0 (suc l) (omega arith))
-
-pub over : (c : Course) (s : List ℕ) → (0 < c .left → length s < rowWidth c) → courseText c s ≡ endText c s
-unfolding courseText endText
-over c s h = over-text (c .left) c s h
+pub over : (c : Course) (s : List ℕ) → (0 < c .left → length s < rowWidth c) → courseText c s ≡ endText (c .left) s
+over c s h = spent-text c s (⊎-elim (λ (l : 0 < c .left). inr (h l)) (λ (g : c .left ≤ 0). inl (omega arith)) (lt-or-le 0 (c .left)))
 
 -- what is printed there is the line of what the trace is refused with
-over-reason : (l w : ℕ) (s : List ℕ) → (0 < l → length s < w) → cond (ltb 0 l) (refusedLine Refusal.Cut) (restText s) ≡ reasonText (rowsRefusal l w (length s))
-unfolding rowsRefusal reasonText restText
+over-reason : (l w : ℕ) (s : List ℕ) → (0 < l → length s < w) → endText l s ≡ reasonText (rowsRefusal l w (length s))
+unfolding rowsRefusal reasonText restText endText
 over-reason zero w [] h = refl
 over-reason zero w (x ∷ s) h = rw (lt-ltb 0 (suc (length s)) (omega arith))
-over-reason (suc l) w s h = rw (lt-ltb (length s) w (h (omega arith)), lt-ltb 0 (suc l) (omega arith))
+over-reason (suc l) w s h = rw (lt-ltb (length s) w (h (omega arith)))
 
 refusal-short : (l w len : ℕ) → 0 < l → len < w → rowsRefusal l w len ≡ Refusal.Cut
 unfolding rowsRefusal
@@ -218,7 +168,7 @@ counted left w len n h e = record { to-come = rw e (least-left left (len / w)); 
 -- the text of a trace: that of its whole rows, and the line of what it is refused with
 module _ (c : Course) (s : List ℕ) (n : ℕ) (all : Counted (c .left) (rowWidth c) (length s) n) where
   pub text-parts : courseText c s ≡ nextRows n c s ++ reasonText (courseRefusal c s)
-  unfolding courseRefusal endText
+  unfolding courseRefusal
   text-parts =
       let c′ = onRows n c s in
       let s′ = drop (n * rowWidth c) s in
@@ -371,7 +321,7 @@ module _ (s out₀ : List ℕ) (c₀ : Course) (width cells values : ℕ) (ok : 
 
   -- no row is there any more: what is still to be written is the end
   pub printed : (out ys : List ℕ) (c : Course) (at o : ℕ) (t : Bool) → Printing s out₀ c₀ out c at o → t ≡ (ltb 0 (c .left) && leb width (length s - at)) → t ≡ false
-      → ys ≡ wrote (take (length out - o) (drop o out)) (endText c (take (length s - at) (drop at s)))
+      → ys ≡ wrote (take (length out - o) (drop o out)) (endText (c .left) (take (length s - at) (drop at s)))
       → take o out ++ (ys ++ drop (length out - o) (drop o out)) ≡ sets out₀ 0 (courseText c₀ s)
   unfolding wrote
   printed out ys c at o t p et h ey =
@@ -380,10 +330,10 @@ module _ (s out₀ : List ℕ) (c₀ : Course) (width cells values : ℕ) (ok : 
       let lo : length (drop o out) ≡ length out - o = length-drop o out in
       let ew : rowWidth c ≡ width = p .width ∙ sym (ok .wide) in
       let short : 0 < c .left → length (drop at s) < rowWidth c = λ g. rw (ls, ew) (leb-false width (length s - at) (sym (rw (lt-ltb 0 (c .left) g) at (sym m)))) in
-      let e : courseText c (drop at s) ≡ endText c (drop at s) = over c (drop at s) short in
+      let e : courseText c (drop at s) ≡ endText (c .left) (drop at s) = over c (drop at s) short in
       let f = p .fits in
       let l = p .long in
-      let ok : length (endText c (drop at s)) ≤ length (drop o out) = rw (← e) (omega arith) in
+      let ok : length (endText (c .left) (drop at s)) ≤ length (drop o out) = rw (← e) (omega arith) in
       let ey′ : ys ≡ sets (take (length out - o) (drop o out)) 0 (courseText c (drop at s)) = ey ∙ rw (to-end s at, to-end out o, le-leb _ _ ok, e) in
       part-put (courseText c (drop at s)) ys out o ey′ ∙ p .text
 

@@ -5,11 +5,11 @@ use mathlib.Core.List.{List, [], _∷_, _++_, append-assoc, append-nil}
 use mathlib.Core.Bool.{Bool, true, false, cond, _&&_}
 use mathlib.Core.Logic.{_⊎_, inl, ⊎-elim}
 use Prim.Native.Nat.{ℕ, zero, suc, _+_, _-_, _*_, _≤_, _<_, min}
-use native.Mathlib.Nat.{sub-zero, zero-sub, suc-sub-suc}
+use native.Mathlib.Nat.{sub-zero, zero-sub, suc-sub-suc, mul-comm}
 use native.Mathlib.Omega.{arith}
 use lib.Dec.{leb, eqb}
 use lib.ListN.{length, take, drop, length-drop, length-take, length-append}
-use lib.Seq.{take-take, take-nil, take-append-seam, drop-append-le, getD-take}
+use lib.Seq.{take-nil, take-append-seam, drop-append-le}
 use borrow.Author.Tests.{le-leb, lt-leb, leb-true}
 use Rattle.refusal.specs.declared.Refusal.{Refusal}
 use Rattle.refusal.specs.declared.Refusal.the-variants as Refusal
@@ -17,14 +17,15 @@ use Rattle.npy.specs.declared.reader.Kind.{Kind}
 use Rattle.npy.specs.declared.reader.Kind.the-variants.{F4}
 use Rattle.npy.specs.declared.reader.Head.{Head}
 use Rattle.npy.specs.TextLaws.{lt-or-le}
-use Rattle.npy.specs.HeaderLaws.{width-small, at-within}
-use Rattle.npy.specs.Text.{begins}
-use Rattle.npy.specs.Header.{cellWidth, lowFirst, magic, widthOf, textLength, textFits, textHead, refusedHead, headerW, headerOf, accepted}
-use Rattle.npy.specs.Cell.{cellOf, cellsOf}
+use Rattle.npy.specs.HeaderLaws.{at-within}
+use Rattle.npy.specs.HeaderStart.{window-decides}
+use Rattle.npy.specs.CellLaws.{cells-start-only}
+use Rattle.npy.specs.Header.{cellWidth, headerOf, accepted}
+use Rattle.npy.specs.Cell.{cellsOf}
 use Rattle.bank.specs.declared.Bank.{Bank}
 use Rattle.trace.specs.declared.course.Course.{Course}
-use Rattle.trace.specs.Trace.{refused, isF4, settingsBytes, settingsRefusal, openedBank, refusedStart, traceStart, startOf, replayOf, refusedLine, rowWidth, rowCalls, rowLine, rowOn, nextRows, onRows, courseText}
-use Rattle.trace.specs.TraceLaws.{rows-on, width-on, rows-cut, endText, end-rest, Spent, spent-text, whole-spent, wholeRows, whole-is, on-width, settings-parts, secondAt, secondHead, Started, started, some-bytes}
+use Rattle.trace.specs.Trace.{refused, isF4, settingsBytes, settingsRefusal, openedBank, refusedStart, traceStart, startOf, replayOf, refusedLine, endText, rowWidth, rowCalls, rowLine, rowOn, nextRows, onRows, courseText}
+use Rattle.trace.specs.TraceLaws.{rows-on, width-on, rows-cut, end-rest, Spent, spent-text, whole-spent, wholeRows, whole-is, on-width, settings-parts, secondAt, secondHead, Started, started, some-bytes}
 
 -- ---- rows are read from their own bytes alone
 
@@ -35,11 +36,7 @@ drop-take (suc i) (suc n) [] = sym (take-nil (suc n - suc i))
 drop-take (suc i) (suc n) (x ∷ xs) = drop-take i n xs ∙ ap (λ (k : ℕ). take k (drop i xs)) (sym (suc-sub-suc n i))
 
 pub cells-take : (kind : Kind) (m n : ℕ) (s : List ℕ) → m * cellWidth kind ≤ n → cellsOf kind m (take n s) ≡ cellsOf kind m s
-unfolding cellsOf cellOf
-cells-take kind zero n s h = refl
-cells-take kind (suc m) n s h =
-    let b = rows-on m (cellWidth kind) n h in
-    rw (take-take (cellWidth kind) n s (b .0), drop-take (cellWidth kind) n s, cells-take kind m (n - cellWidth kind) (drop (cellWidth kind) s) (b .1))
+cells-take kind m n s h = cells-start-only kind m n s (rw (mul-comm (cellWidth kind) m) h)
 
 calls-take : (c : Course) (n : ℕ) (s : List ℕ) → rowWidth c ≤ n → rowCalls c (take n s) ≡ rowCalls c s
 unfolding rowCalls rowWidth
@@ -134,14 +131,7 @@ unfolding atOnce joined allOf
 at-once-joined [] c kept = refl
 at-once-joined (bytes ∷ more) c kept = ap (λ (l : List ℕ). bytes ++ l) (at-once-joined more _ _)
 
--- ---- the header: its first 1,012 bytes decide it (8, then 4 of a length, then 1,000 of text)
-
-begins-take : (w : List ℕ) (n : ℕ) (s : List ℕ) → length w ≤ n → begins (take n s) w ≡ begins s w
-unfolding begins
-begins-take [] n s h = refl
-begins-take (x ∷ xs) zero s h = absurd (omega arith)
-begins-take (x ∷ xs) (suc n) [] h = refl
-begins-take (x ∷ xs) (suc n) (y ∷ ys) h = let l : length xs ≤ n = omega arith in rw (begins-take xs n ys l)
+-- ---- the start: 2,184 bytes decide it, two headers (of at most 1,012 bytes each) and the settings of eight lanes
 
 -- so many bytes are there, or not, all the same
 long-take : (a n : ℕ) (s : List ℕ) → a ≤ n → leb a (length (take n s)) ≡ leb a (length s)
@@ -152,69 +142,17 @@ long-take a n s h =
     (λ (l : a ≤ length s). le-leb a (min n (length s)) (omega arith) ∙ sym (le-leb _ _ l))
     (lt-or-le (length s) a))
 
--- and so is a part of them
-part-take : (i m n : ℕ) (s : List ℕ) → i + m ≤ n → take m (drop i (take n s)) ≡ take m (drop i s)
-part-take i m n s h = rw (drop-take i n s) (take-take m (n - i) (drop i s) (omega arith))
-
-width-take : (n : ℕ) (s : List ℕ) → 8 ≤ n → widthOf (take n s) ≡ widthOf s
-unfolding widthOf
-width-take n s h =
-    rw (long-take 8 n s h, begins-take magic n s (omega arith), getD-take n s 7 0 (omega arith), getD-take n s 6 0 (omega arith))
-
--- a text of more than 1,000 bytes is refused whatever there is
-too-long : (x b len : ℕ) → leb x 1000 ≡ false → textFits x b len ≡ false
-unfolding textFits
-too-long x b len e = rw e (go (leb 1 x))
-  where
-    go : (t : Bool) → (t && false) ≡ false
-    go true = refl
-    go false = refl
-
-fits-take : (x b n : ℕ) (s : List ℕ) → b + x ≤ n → textFits x b (length (take n s)) ≡ textFits x b (length s)
-unfolding textFits
-fits-take x b n s h = rw (long-take (b + x) n s h)
-
-length-same : (w n : ℕ) (s : List ℕ) → 8 + w ≤ n → textLength w (take n s) ≡ textLength w s
-unfolding textLength
-length-same w n s h = ap lowFirst (part-take 8 w n s h)
-
-by-width-take : (w n : ℕ) (s : List ℕ) → w ≤ 4 → 1012 ≤ n → headerW w (take n s) ≡ headerW w s
-unfolding headerW
-by-width-take w n s hw h =
-    rw (length-same w n s (omega arith), long-take (8 + w) n s (omega arith)) (go (leb x 1000) refl)
-  where
-    x : ℕ
-    x = textLength w s
-
-    neither : (t : Bool) (p q r : Head) → cond (t && false) p r ≡ cond (t && false) q r
-    neither true p q r = refl
-    neither false p q r = refl
-
-    go : (t : Bool) → leb x 1000 ≡ t
-        → cond (leb (8 + w) (length s) && textFits x (8 + w) (length (take n s))) (textHead (take x (drop (8 + w) (take n s))) (8 + w + x)) (refusedHead Refusal.Header)
-        ≡ cond (leb (8 + w) (length s) && textFits x (8 + w) (length s)) (textHead (take x (drop (8 + w) s)) (8 + w + x)) (refusedHead Refusal.Header)
-    go true e =
-        let l : x ≤ 1000 = leb-true x 1000 e in
-        rw (fits-take x (8 + w) n s (omega arith), part-take (8 + w) x n s (omega arith))
-    go false e = rw (too-long x (8 + w) (length (take n s)) e, too-long x (8 + w) (length s) e) (neither (leb (8 + w) (length s)) _ _ _)
-
-pub header-take : (n : ℕ) (s : List ℕ) → 1012 ≤ n → headerOf (take n s) ≡ headerOf s
-unfolding headerOf
-header-take n s h = rw (width-take n s (omega arith), by-width-take (widthOf s) n s (width-small s) h)
-
 -- so the data of an array begin there at the latest
 pub at-small : (s : List ℕ) → headerOf s .at ≤ 1012
 at-small s =
     let h : headerOf (take 1012 s) .at ≤ min 1012 (length s) = rw length-take at (at-within (take 1012 s)) in
-    let e : headerOf (take 1012 s) .at ≡ headerOf s .at = ap (λ (x : Head). x .at) (header-take 1012 s (omega arith)) in
+    let e : headerOf (take 1012 s) .at ≡ headerOf s .at = ap (λ (x : Head). x .at) (window-decides 1012 s (omega arith)) in
     omega arith
-
--- ---- the start: 2,184 bytes decide it, two headers and the settings of eight lanes
 
 trace-take : (k : ℕ) (b : Bank) (at n : ℕ) (s : List ℕ) → at + 1012 ≤ n → traceStart k b at (take n s) ≡ traceStart k b at s
 unfolding traceStart
 trace-take k b at n s h =
-    let e : headerOf (drop at (take n s)) ≡ headerOf (drop at s) = rw (drop-take at n s) (header-take (n - at) (drop at s) (omega arith)) in
+    let e : headerOf (drop at (take n s)) ≡ headerOf (drop at s) = rw (drop-take at n s) (window-decides (n - at) (drop at s) (omega arith)) in
     rw e
 
 opened-take : (k at n : ℕ) (s : List ℕ) → at + k * 20 ≤ n → openedBank k (drop at (take n s)) ≡ openedBank k (drop at s)
@@ -241,7 +179,7 @@ settings-take n s h l = go (leb 1 (h .rows)) (leb (h .rows) 8) refl (eqb (h .col
 pub start-take : (n : ℕ) (s : List ℕ) → 2184 ≤ n → startOf (take n s) ≡ startOf s
 unfolding startOf
 start-take n s h =
-    rw (header-take n s (omega arith), settings-take n s (headerOf s) (omega (arith, at-small s)))
+    rw (window-decides n s (omega arith), settings-take n s (headerOf s) (omega (arith, at-small s)))
     (go (refused (settingsRefusal (headerOf s) (length s))) refl)
   where
     go : (t : Bool) → refused (settingsRefusal (headerOf s) (length s)) ≡ t

@@ -3,8 +3,8 @@ ghost use mathlib.Core.Path.{_≡_};
 ghost use Prim.Native.Nat.{_+_, _≤_};
 ghost use lib.ListN.{length};
 ghost use lib.Seq.{sets};
-ghost use Rattle.trace.specs.Trace.{refusedLine};
-ghost use Rattle.trace.specs.Slices.{endText, wrote, wroteCount};
+ghost use Rattle.trace.specs.Trace.{refusedLine, endText};
+ghost use Rattle.trace.specs.Slices.{wrote, wroteCount};
 use crate::course::Course;
 use refusal::Refusal;
 
@@ -50,7 +50,7 @@ pub fn refused_line(why: Refusal, out: &mut [u8]) -> usize
 // What is printed after the last whole row, given the bytes that are left and are no whole row: 15 where rows are still to come, 16 where
 // there are bytes after the last, else nothing. Answers how many bytes it wrote, and writes all of them or none.
 pub fn end(course: Course, rest: &[u8], out: &mut [u8]) -> usize
-    ensures { λ r. ⌜ (r ≡ wroteCount (now (out .entry)) (endText course (now (rest .entry)))) × (now (out .exit) ≡ wrote (now (out .entry)) (endText course (now (rest .entry)))) ⌝ }
+    ensures { λ r. ⌜ (r ≡ wroteCount (now (out .entry)) (endText (course .left) (now (rest .entry)))) × (now (out .exit) ≡ wrote (now (out .entry)) (endText (course .left) (now (rest .entry)))) ⌝ }
 {
     if 0 < course.left {
         return refused_line(Refusal::Cut, out);
