@@ -8,3 +8,5 @@ pub mod Runs
 pub mod RunLaws
 pub mod Rows
 pub mod RowsLaws
+pub mod Columns
+pub mod ColumnsLaws

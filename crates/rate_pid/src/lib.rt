@@ -24,16 +24,17 @@ pub struct PidTerms {
     pub dm_out: f32,
 }
 
-// The Rust's max_integral is always 1, and is no field here.
+// The Rust's max_integral is always 1, and is no field here. A number that an update changes stands between two that it
+// does not: side by side, the compiler would keep them as one vector, and each would wait for the slowest of them.
 pub struct RatePid {
     pub kp: f32,
-    pub ki: f32,
-    pub kd: f32,
     pub integral: f32,
+    pub ki: f32,
     pub prev_meas: f32,
+    pub kd: f32,
     pub prev_ref: f32,
-    pub terms: PidTerms,
     pub dt: f32,
+    pub terms: PidTerms,
     pub integral_en: bool,
     pub lowpass: Lowpass,
     pub d_lowpass: NthOrderLowpass,

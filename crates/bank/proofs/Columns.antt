@@ -1,0 +1,205 @@
+-- Rows lane by lane: one lane's way through its rows, and then one lane after the other. Assumes nothing.
+use mathlib.Core.Path.{_≡_, refl, sym, _∙_, ap, subst}
+use mathlib.Core.Bool.{Bool, false}
+use mathlib.Core.List.{List, _++_}
+use mathlib.Core.Logic.{⊎-elim}
+use Prim.Native.Nat.{ℕ, suc, _+_, _-_, _*_, _≤_, _<_}
+use native.Mathlib.Omega.{arith}
+use lib.Ieee.{Float, nan}
+use lib.ListN.{getD, set, length, take, drop, length-set, length-drop, take-append-drop}
+use lib.Seq.{take-all, getD-set-same, getD-set-other, getD-take, getD-drop, ext-getD, sets, sets-eq, length-take-le}
+use Rattle.float.specs.F32 as F
+use Rattle.bank.specs.declared.lane.Lane.{Lane}
+use Rattle.bank.specs.declared.lane.Op.{Op}
+use Rattle.bank.specs.declared.lane.Answer.{Answer}
+use Rattle.bank.specs.declared.lane.Stepped.{Stepped}
+use Rattle.bank.specs.declared.Bank.{Bank}
+use Rattle.bank.specs.Lane.{closedLane, ready, laneStep}
+use Rattle.bank.specs.LaneLaws.{idle}
+use Rattle.bank.specs.Bank.{laneAt, put, bankStep}
+use Rattle.bank.specs.BankLaws.{Eight, named}
+use Rattle.bank.specs.Runs.{For, run, after}
+use Rattle.bank.specs.Rows.{updateCalls, roomFor, rowCalls, Whole, valuesOf, rowsOut, rowsBank}
+use Rattle.bank.specs.RowsLaws.{room-is, room-under}
+use Rattle.bank.proofs.Steps.{any}
+use Rattle.bank.specs.Columns.{turnOf, opAt, firstCalls, valueAt, Walked}
+use Rattle.bank.specs.ColumnsLaws.{lt-or-le, own-turn, next-turn, between, turn-within, after-eight, values-count, calls-count, first-count, first-next, first-value, first-all, stays}
+
+-- ---- one lane
+
+-- on the way: at a place where it is the lane's turn
+pub record Walking (k L : ℕ) (cells : List Float) (n : ℕ) (l : Lane) (out : List Float) (at : ℕ) (l′ : Lane) (out′ : List Float) : Type 0 where
+  pub turn : turnOf k at ≡ L
+  pub walked : Walked k L cells n l out at l′ out′
+
+module _ (k L : ℕ) (cells : List Float) (n : ℕ) (within : L < k) (few : k < 9) (fits : n * 3 ≤ length cells) (l : Lane) (out : List Float) where
+  pub start : Walking k L cells n l out L l out
+  unfolding after
+  start =
+      let own = own-turn k in
+      record {
+        turn = own L within;
+        walked = record {
+          lane = λ b eight e. let all : 0 + L ≡ L = omega arith in subst (λ (x : ℕ). laneAt (after b (take x (firstCalls k cells n))) L ≡ l) all (stays k cells n fits L b 0 L (λ i p q s. let o = sym (own i (omega arith)) ∙ s in absurd (omega arith)) ∙ e);
+          values = λ b eight e i h g s. let o = sym (own i (omega arith)) ∙ s in absurd (omega arith);
+          others = λ i f. refl;
+          long = refl;
+        };
+      }
+
+  module _ (at : ℕ) (l′ : Lane) (out′ : List Float) (w : Walking k L cells n l out at l′ out′) where
+    pub turn : at < n → n ≤ length out → (next : Stepped) → next ≡ laneStep l′ (opAt cells at) → Walking k L cells n l out (at + k) (next .lane) (set out′ at (next .answer .y))
+    turn h room next e =
+        let calls = firstCalls k cells n in
+        let it = w .turn in
+        let was = w .walked in
+        let made : (b : Bank) → Eight b → laneAt b L ≡ l → (bankStep (after b (take at calls)) L (opAt cells at) .answer ≡ next .answer) × (laneAt (bankStep (after b (take at calls)) L (opAt cells at) .bank) L ≡ next .lane) =
+        λ b eight s.
+        let own = named (after b (take at calls)) L (opAt cells at) (omega arith) (after-eight (take at calls) b eight) in
+        let step : laneStep (laneAt (after b (take at calls)) L) (opAt cells at) ≡ next = ap (λ (x : Lane). laneStep x (opAt cells at)) (was .lane b eight s) ∙ sym e in
+        (own .0 ∙ ap (λ (x : Stepped). x .answer) step, own .1 ∙ ap (λ (x : Stepped). x .lane) step) in
+        record {
+          turn = next-turn k at L within it;
+          walked = record {
+            lane = λ b eight s.
+                let all : suc at + (k - 1) ≡ at + k = omega arith in
+                subst (λ (x : ℕ). laneAt (after b (take x calls)) L ≡ next .lane) all
+                (stays k cells n fits L b (suc at) (k - 1) (λ i p q t. between k at L i within it (omega arith) (omega arith) t)
+                ∙ ap (λ (x : Bank). laneAt x L) (first-next k cells n fits b at h ∙ ap (λ (x : ℕ). bankStep (after b (take at calls)) x (opAt cells at) .bank) it)
+                ∙ made b eight s .1);
+            values = λ b eight s i h′ g t.
+                ⊎-elim
+                (λ (p : i < at). getD-set-other out′ at i _ _ (λ z. absurd (omega arith)) ∙ was .values b eight s i p g t)
+                (λ (p : at ≤ i). ⊎-elim
+                (λ (q : at < i). absurd (between k at L i within it q h′ t))
+                (λ (q : i ≤ at). let same : at ≡ i = omega arith in subst (λ (x : ℕ). getD (set out′ at (next .answer .y)) x F.zero ≡ valueAt b k cells n x) same
+                (getD-set-same out′ at _ _ (omega (arith, was .long))
+                ∙ ap (λ (x : Answer). x .y) (sym (made b eight s .0))
+                ∙ ap (λ (x : ℕ). bankStep (after b (take at calls)) x (opAt cells at) .answer .y) (sym it)))
+                (lt-or-le at i))
+                (lt-or-le i at);
+            others = λ i f. getD-set-other out′ at i _ _ (λ z. f (ap (turnOf k) z ∙ it) (omega (arith, z))) ∙ was .others i f;
+            long = length-set out′ at (next .answer .y) ∙ was .long;
+          };
+        }
+
+    -- a lane that is not ready stays, and its value is +0
+    turn-idle : at < n → n ≤ length out → ready l′ ≡ false → Walking k L cells n l out (at + k) l′ (set out′ at F.zero)
+    turn-idle h room off =
+        let still = idle l′ (getD cells (at * 3) nan) (getD cells (at * 3 + 1) nan) (getD cells (at * 3 + 2) nan) off in
+        subst (λ (y : Float). Walking k L cells n l out (at + k) l′ (set out′ at y)) (still .1)
+        (subst (λ (x : Lane). Walking k L cells n l out (at + k) x (set out′ at (laneStep l′ (opAt cells at) .answer .y))) (still .0)
+        (turn h room _ refl))
+
+    -- the two ways through a turn, as they meet again
+    pub turn-made : at < n → n ≤ length out → (next : Stepped) → next ≡ laneStep l′ (opAt cells at) → (x : Lane) (y : Float) → x ≡ next .lane → y ≡ next .answer .y
+        → Walking k L cells n l out (at + k) x (set out′ at y)
+    turn-made h room next e x y p q = rw (p, q) (turn h room next e)
+
+    pub turn-left : at < n → n ≤ length out → (t : Bool) → t ≡ ready l′ → t ≡ false → (x : Lane) (y : Float) → x ≡ l′ → y ≡ F.zero → Walking k L cells n l out (at + k) x (set out′ at y)
+    turn-left h room t e off x y p q = rw (p, q) (turn-idle h room (sym e ∙ off))
+
+    pub walked-all : n ≤ at → Walked k L cells n l out n l′ out′
+    walked-all h =
+        let was = w .walked in
+        record {
+          lane = λ b eight s. ap (λ (qs : List (For Op)). laneAt (after b qs) L) (first-all k cells n fits n (omega arith) ∙ sym (first-all k cells n fits at h)) ∙ was .lane b eight s;
+          values = λ b eight s i p g t. was .values b eight s i (omega arith) g t;
+          others = was .others;
+          long = was .long;
+        }
+
+-- ---- one lane after the other
+
+-- a lane of a row
+pub narrow : (k lanes L : ℕ) → lanes ≡ roomFor k k → L < lanes → (L < k) × (k < 9)
+narrow k lanes L e h = ⊎-elim
+    (λ (r : (0 < k) × (k < 9) × ((room : ℕ) → roomFor k room ≡ room)). (omega (arith, r .2 k), r .1))
+    (λ (r : (room : ℕ) → roomFor k room ≡ 0). absurd (omega (arith, r k))) (room-is k)
+
+-- where a call is made, every lane of a row is gone through
+turns-through : (k room n i L : ℕ) → n ≤ roomFor k room → i < n → roomFor k k ≤ L → turnOf k i < L
+turns-through k room n i L h g f = ⊎-elim
+    (λ (r : (0 < k) × (k < 9) × ((room : ℕ) → roomFor k room ≡ room)). let t = turn-within k (r .0) i 0 (r .0) in omega (arith, r .2 k, t))
+    (λ (r : (room : ℕ) → roomFor k room ≡ 0). absurd (omega (arith, r room))) (room-is k)
+
+-- as many calls as there is room for are the first n
+as-whole : (k : ℕ) (cells out : List Float) (n : ℕ) → Whole (length cells) (roomFor k (length out)) n → take (roomFor k (length out)) (updateCalls k 0 cells) ≡ firstCalls k cells n
+as-whole k cells out n w = ⊎-elim
+    (λ (h : roomFor k (length out) ≤ n). let e : roomFor k (length out) ≡ n = omega (arith, w .under) in ap (λ (x : ℕ). take x (updateCalls k 0 cells)) e)
+    (λ (h : length cells < n * 3 + 3).
+    let c = calls-count k 0 n cells (w .fits) h in
+    take-all (roomFor k (length out)) (updateCalls k 0 cells) (omega (arith, c, w .under)) ∙ sym (take-all n (updateCalls k 0 cells) (omega (arith, c)))) (w .all)
+
+-- lanes before this one are as the calls leave them, and their values stand; the others are as they were
+pub record Columned (k : ℕ) (cells out₀ : List Float) (n : ℕ) (b₀ : Bank) (out : List Float) (b : Bank) (L : ℕ) : Type 0 where
+  pub whole : Whole (length cells) (roomFor k (length out₀)) n
+  pub under : L ≤ roomFor k k
+  pub eight₀ : Eight b₀
+  pub eight : Eight b
+  pub long : length out ≡ length out₀
+  pub made : (i : ℕ) → i < L → laneAt b i ≡ laneAt (after b₀ (firstCalls k cells n)) i
+  pub still : (i : ℕ) → L ≤ i → laneAt b i ≡ laneAt b₀ i
+  pub values : (i : ℕ) → i < n → turnOf k i < L → getD out i F.zero ≡ valueAt b₀ k cells n i
+  pub rest : (i : ℕ) → n ≤ i → getD out i F.zero ≡ getD out₀ i F.zero
+
+module _ (k : ℕ) (cells out₀ : List Float) (n : ℕ) (b₀ : Bank) where
+  pub none-yet : Whole (length cells) (roomFor k (length out₀)) n → Eight b₀ → Columned k cells out₀ n b₀ out₀ b₀ 0
+  none-yet w e = record { whole = w; under = omega arith; eight₀ = e; eight = e; long = refl; made = λ i h. absurd (omega arith); still = λ i h. refl; values = λ i h g. absurd (omega arith); rest = λ i h. refl }
+
+  module _ (out : List Float) (b : Bank) (L : ℕ) (inv : Columned k cells out₀ n b₀ out b L) where
+    pub column : (lanes : ℕ) → lanes ≡ roomFor k k → L < lanes → (d put′ : Lane) (out′ : List Float) → Walked k L cells n (getD (b .lanes) L d) out n put′ out′ → Columned k cells out₀ n b₀ out′ (put b L put′) (L + 1)
+    column lanes s h d put′ out′ w =
+        let in-row = narrow k lanes L s h in
+        let held : L < length (b .lanes) = omega (arith, inv .eight, in-row .0, in-row .1) in
+        let here : laneAt b₀ L ≡ getD (b .lanes) L d = sym (inv .still L (omega arith)) ∙ any (b .lanes) L closedLane d held in
+        record {
+          whole = inv .whole;
+          under = omega arith;
+          eight₀ = inv .eight₀;
+          eight = length-set (b .lanes) L put′ ∙ inv .eight;
+          long = w .long ∙ inv .long;
+          made = λ i p.
+              ⊎-elim
+              (λ (q : i < L). getD-set-other (b .lanes) L i put′ closedLane (λ z. absurd (omega (arith, z))) ∙ inv .made i q)
+              (λ (q : L ≤ i). let same : L ≡ i = omega arith in subst (λ (x : ℕ). laneAt (put b L put′) x ≡ laneAt (after b₀ (firstCalls k cells n)) x) same
+              (getD-set-same (b .lanes) L put′ closedLane held ∙ sym (w .lane b₀ (inv .eight₀) here) ∙ ap (λ (qs : List (For Op)). laneAt (after b₀ qs) L) (first-all k cells n (inv .whole .fits) n (omega arith))))
+              (lt-or-le i L);
+          still = λ i p. getD-set-other (b .lanes) L i put′ closedLane (λ z. absurd (omega (arith, z))) ∙ inv .still i (omega arith);
+          values = λ i p q.
+              ⊎-elim
+              (λ (g : turnOf k i < L). w .others i (λ z u. absurd (omega (arith, z))) ∙ inv .values i p g)
+              (λ (g : L ≤ turnOf k i). w .values b₀ (inv .eight₀) here i p p (omega arith))
+              (lt-or-le (turnOf k i) L);
+          rest = λ i p. w .others i (λ z u. absurd (omega arith)) ∙ inv .rest i p;
+        }
+
+    pub columned-all : (lanes : ℕ) → lanes ≡ roomFor k k → lanes ≤ L → (b ≡ rowsBank b₀ k cells out₀) × (out ≡ rowsOut b₀ k cells out₀)
+    unfolding rowsBank rowsOut rowCalls after
+    columned-all lanes s h =
+        let w = inv .whole in
+        let calls = firstCalls k cells n in
+        let all = as-whole k cells out₀ n w in
+        let ys = valuesOf (run b₀ calls) in
+        let room : n ≤ length out₀ = omega (arith, w .under, room-under k (length out₀)) in
+        let count : length ys ≡ n = values-count calls b₀ ∙ first-count k cells n (w .fits) in
+        let turns : (i : ℕ) → i < n → turnOf k i < L = λ i g. turns-through k (length out₀) n i L (w .under) g (omega arith) in
+        let idle-lanes : (i : ℕ) → L ≤ i → laneAt (after b₀ calls) i ≡ laneAt b₀ i = λ i g.
+        let z : 0 + n ≡ n = omega arith in
+        ap (λ (qs : List (For Op)). laneAt (after b₀ qs) i) (sym (first-all k cells n (w .fits) n (omega arith)) ∙ ap (λ (x : ℕ). take x calls) (sym z))
+        ∙ stays k cells n (w .fits) i b₀ 0 n (λ j p q s. absurd (omega (arith, turns j (omega arith), s))) in
+        let lanes : b .lanes ≡ after b₀ calls .lanes =
+        ext-getD closedLane (b .lanes) (after b₀ calls .lanes) (inv .eight ∙ sym (after-eight calls b₀ (inv .eight₀)))
+        (λ i g. ⊎-elim (λ (p : i < L). inv .made i p) (λ (p : L ≤ i). inv .still i p ∙ sym (idle-lanes i p)) (lt-or-le i L)) in
+        let long : n ≤ length out = omega (arith, inv .long) in
+        let front : take n out ≡ ys =
+        ext-getD F.zero (take n out) ys (length-take-le n out long ∙ sym count)
+        (λ i g. let i-in : i < n = omega (arith, length-take-le n out long) in getD-take n out i F.zero i-in ∙ inv .values i i-in (turns i i-in) ∙ sym (first-value k cells n (w .fits) b₀ i F.zero i-in)) in
+        let back : drop n out ≡ drop n out₀ =
+        ext-getD F.zero (drop n out) (drop n out₀) (length-drop n out ∙ ap (λ (x : ℕ). x - n) (inv .long) ∙ sym (length-drop n out₀))
+        (λ i g. getD-drop n out i F.zero ∙ inv .rest (n + i) (omega arith) ∙ sym (getD-drop n out₀ i F.zero)) in
+        let seam : n ≡ 0 + length ys = omega (arith, count) in
+        let whole-out : out ≡ sets out₀ 0 ys =
+        sym (take-append-drop n out) ∙ ap (λ (x : List Float). x ++ drop n out) front ∙ ap (_++_ ys) back
+        ∙ ap (λ (x : ℕ). ys ++ drop x out₀) seam ∙ sym (sets-eq ys out₀ 0 (omega (arith, count))) in
+        (ap (λ (l : List Lane). record { lanes = l }) lanes ∙ ap (after b₀) (sym all), whole-out ∙ ap (λ (qs : List (For Op)). sets out₀ 0 (valuesOf (run b₀ qs))) (sym all))
