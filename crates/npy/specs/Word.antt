@@ -2,7 +2,7 @@
 use Prim.Native.Nat.{ℕ, zero, suc, _+_, _-_, _*_, _/_, _%_}
 use mathlib.Core.List.{List, [], _∷_, _++_}
 use mathlib.Core.Bool.{Bool, cond, _&&_}
-use lib.Dec.{ltb, leb}
+use lib.Dec.{eqb, ltb, leb}
 use lib.ListN.{take, drop}
 use lib.Ieee as Ieee
 use lib.Ieee.{Float, binary32}
@@ -29,8 +29,20 @@ unfoldable pub lineOf : List Float → List ℕ
 lineOf [] = []
 lineOf (x ∷ xs) = wordOf x ++ (afterWord xs ∷ lineOf xs)
 
-unfoldable pub separator : ℕ → ℕ → ℕ
-separator i n = cond (ltb i n) 32 10
+-- what stands after a word with so many to come in its line
+unfoldable pub separator : ℕ → ℕ
+separator zero = 10
+separator (suc left) = 32
+
+-- how many are to come after the next word, where a line's first has so many after it
+unfoldable pub toCome : ℕ → ℕ → ℕ
+toCome more zero = more
+toCome more (suc left) = left
+
+-- words in lines one after the other: after the first word so many are to come in its line, and after the first of any other line so many
+unfoldable pub wordsOf : ℕ → ℕ → List Float → List ℕ
+wordsOf more left [] = []
+wordsOf more left (x ∷ xs) = wordOf x ++ (separator left ∷ wordsOf more (toCome more left) xs)
 
 -- n words, 9 bytes each, fit from a place on
 unfoldable pub lineFits : ℕ → ℕ → ℕ → Bool
@@ -43,3 +55,10 @@ lineEnd at n len = cond (lineFits at n len) (at + 9 * n) at
 unfoldable pub linesOf : ℕ → ℕ → List Float → List ℕ
 linesOf k zero xs = []
 linesOf k (suc n) xs = lineOf (take k xs) ++ linesOf k n (drop k xs)
+
+-- n words are whole rows of k, and fit from a place on
+unfoldable pub linesFit : ℕ → ℕ → ℕ → ℕ → Bool
+linesFit at k n len = ltb 0 k && (eqb (n % k) 0 && lineFits at n len)
+
+unfoldable pub linesEnd : ℕ → ℕ → ℕ → ℕ → ℕ
+linesEnd at k n len = cond (linesFit at k n len) (at + 9 * n) at

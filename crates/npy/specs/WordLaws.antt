@@ -1,19 +1,20 @@
 -- Laws of words and lines: a word stored, a line word by word, its length and its columns.
 use mathlib.Core.Path.{_≡_, refl, sym, ap, _∙_}
-use mathlib.Core.List.{List, [], _∷_, _++_}
+use mathlib.Core.List.{List, [], _∷_, _++_, append-nil}
 use mathlib.Core.Bool.{Bool, true, false, cond, _&&_}
 use Prim.Native.Nat.{ℕ, zero, suc, _+_, _-_, _*_, _/_, _%_, _≤_, _<_}
 use native.Mathlib.Numerals.{add-one}
 use native.Mathlib.Omega.{arith}
-use lib.ListN.{length, getD, set, take, drop, drop-of-length-le}
-use lib.Seq.{drop-cons, drop-drop, sets}
-use lib.Dec.{ltb, leb}
+use lib.ListN.{length, getD, set, take, drop, drop-of-length-le, length-drop, take-append-drop}
+use lib.Seq.{drop-cons, drop-drop, length-take-le, sets}
+use native.Mathlib.Nat.{div-add-mod'}
+use lib.Dec.{eqb, ltb, leb}
 use lib.Ieee as Ieee
 use lib.Ieee.{Float, nan, binary32}
 use mathlib.Core.Logic.{⊎-elim}
-use borrow.Author.Tests.{lt-ltb, le-ltb, le-leb, lt-leb, leb-true, leb-false, ltb-true, ltb-false}
+use borrow.Author.Tests.{lt-ltb, le-ltb, le-leb, lt-leb, leb-true, leb-false, ltb-true, ltb-false, eqb-true}
 use Rattle.npy.specs.TextLaws.{lt-or-le, and-left, and-right}
-use Rattle.npy.specs.Word.{hexOf, hexWord, wordOf, afterWord, lineOf, separator, lineFits, lineEnd}
+use Rattle.npy.specs.Word.{hexOf, hexWord, wordOf, afterWord, lineOf, separator, toCome, wordsOf, lineFits, lineEnd, linesOf, linesFit, linesEnd}
 
 -- nine stores one after the other
 sets9 : (l : List ℕ) (o a b c d e f g h i : ℕ)
@@ -43,24 +44,53 @@ sets-word : (l : List ℕ) (o v i : ℕ) (rest : List ℕ) → sets (sets l o (h
 unfolding hexWord
 sets-word l o v i rest = let p : o + 9 ≡ suc (suc (suc (suc (suc (suc (suc (suc (suc o)))))))) = omega arith in rw p
 
-after-word : (v : List Float) (i : ℕ) → separator i (length v) ≡ afterWord (drop i v)
-unfolding separator afterWord
-after-word v i =
-    ⊎-elim
-    (λ (h : i < length v). rw (lt-ltb i (length v) h, drop-cons v i nan h))
-    (λ (h : length v ≤ i). rw (le-ltb i (length v) h, drop-of-length-le v h))
-    (lt-or-le i (length v))
+pub words-more : (v : List Float) (l m : List ℕ) (more left next o i b s : ℕ) → i < length v → b ≡ Ieee.toBits binary32 (getD v i nan) → s ≡ separator left → next ≡ toCome more left
+    → m ≡ sets l o (hexWord b ++ (s ∷ [])) → sets m (o + 9) (wordsOf more next (drop (i + 1) v)) ≡ sets l o (wordsOf more left (drop i v))
+unfolding wordsOf wordOf
+words-more v l m more left next o i b s h eb es en em =
+    rw (em, drop-cons v i nan h, ← eb, ← es, ← en, add-one i) (sets-word l o b s (wordsOf more next (drop (suc i) v)))
 
-pub line-more : (v : List Float) (l m : List ℕ) (o i b s : ℕ) → i < length v → b ≡ Ieee.toBits binary32 (getD v i nan) → s ≡ separator (i + 1) (length v)
-    → m ≡ sets l o (hexWord b ++ (s ∷ [])) → sets m (o + 9) (lineOf (drop (i + 1) v)) ≡ sets l o (lineOf (drop i v))
-unfolding lineOf wordOf
-line-more v l m o i b s h eb es em =
-    let a : s ≡ afterWord (drop (suc i) v) = es ∙ after-word v (i + 1) ∙ ap (λ (n : ℕ). afterWord (drop n v)) (add-one i) in
-    rw (em, drop-cons v i nan h, ← eb, ← a, add-one i) (sets-word l o b s (lineOf (drop (suc i) v)))
+pub words-done : (v : List Float) (l : List ℕ) (more left o i : ℕ) → length v ≤ i → l ≡ sets l o (wordsOf more left (drop i v))
+unfolding wordsOf
+words-done v l more left o i h = rw (drop-of-length-le v h)
 
-pub line-done : (v : List Float) (l : List ℕ) (o i : ℕ) → length v ≤ i → l ≡ sets l o (lineOf (drop i v))
-unfolding lineOf
-line-done v l o i h = rw (drop-of-length-le v h)
+-- a line, and what is after it
+words-first : (more left : ℕ) (v w : List Float) → length v ≡ suc left → wordsOf more left (v ++ w) ≡ lineOf v ++ wordsOf more more w
+unfolding wordsOf lineOf wordOf hexWord afterWord separator toCome
+words-first more left [] w h = let q : _≡_ {A = ℕ} 0 1 = omega arith in (cc)
+words-first more zero (x ∷ []) w h = refl
+words-first more (suc left) (x ∷ []) w h = let q : _≡_ {A = ℕ} 0 1 = omega arith in (cc)
+words-first more zero (x ∷ y ∷ v) w h = let q : _≡_ {A = ℕ} 0 1 = omega arith in (cc)
+words-first more (suc left) (x ∷ y ∷ v) w h = rw (words-first more left (y ∷ v) w (omega arith))
+
+-- one line of as many words as there are
+pub words-line : (n : ℕ) (v : List Float) → n ≡ length v → (n ≡ 0 → ⊥) → wordsOf (n - 1) (n - 1) v ≡ lineOf v
+unfolding wordsOf
+words-line zero v e h = absurd (h refl)
+words-line (suc more) v e h =
+    let p : suc more - 1 ≡ more = omega arith in
+    rw p (one more v (sym e))
+  where
+    one : (more : ℕ) (v : List Float) → length v ≡ suc more → wordsOf more more v ≡ lineOf v
+    one more v h = ap (wordsOf more more) (sym (append-nil v)) ∙ words-first more more v [] h ∙ append-nil (lineOf v)
+
+-- lines of as many words each
+words-lines : (more n : ℕ) (v : List Float) → length v ≡ n * suc more → wordsOf more more v ≡ linesOf (suc more) n v
+unfolding wordsOf linesOf
+words-lines more zero [] h = refl
+words-lines more zero (x ∷ v) h = let q : _≡_ {A = ℕ} 0 1 = omega arith in (cc)
+words-lines more (suc n) v h =
+    let a : suc more ≤ length v = rw h (omega arith) in
+    let b : length (drop (suc more) v) ≡ n * suc more = length-drop (suc more) v ∙ omega arith in
+    ap (wordsOf more more) (sym (take-append-drop (suc more) v)) ∙ words-first more more (take (suc more) v) (drop (suc more) v) (length-take-le (suc more) v a)
+    ∙ ap (_++_ (lineOf (take (suc more) v))) (words-lines more n (drop (suc more) v) b)
+
+pub words-rows : (k : ℕ) (v : List Float) → 1 ≤ k → length v % k ≡ 0 → wordsOf (k - 1) (k - 1) v ≡ linesOf k (length v / k) v
+words-rows zero v h e = let q : _≡_ {A = ℕ} 0 1 = omega arith in (cc)
+words-rows (suc more) v h e =
+    let p : suc more - 1 ≡ more = omega arith in
+    let q : length v ≡ length v / suc more * suc more = omega (arith, div-add-mod' (length v) (suc more)) in
+    rw p (words-lines more (length v / suc more) v q)
 
 pub line-room : (at n len : ℕ) (b : Bool) → b ≡ lineFits at n len → b ≡ true → at + 9 * n ≤ len
 unfolding lineFits
@@ -70,15 +100,37 @@ line-room at n len b e h =
     let q : n ≤ (len - at) / 9 = leb-true _ _ (and-right (leb at len) (leb n ((len - at) / 9)) t) in
     omega arith
 
-pub line-kept : (at n len : ℕ) (b : Bool) (l m : List ℕ) → b ≡ lineFits at n len → b ≡ false
-    → (at ≡ lineEnd at n len) × (l ≡ cond (lineFits at n len) m l)
-unfolding lineEnd
-line-kept at n len b l m e h = let t : lineFits at n len ≡ false = sym e ∙ h in (rw t, rw t)
+-- what a test refused, and what it let
+pub kept : {b fits : Bool} (at end : ℕ) (l m : List ℕ) → b ≡ fits → b ≡ false → (at ≡ cond fits end at) × (l ≡ cond fits m l)
+kept at end l m e h = let t = sym e ∙ h in (rw t, rw t)
 
-pub line-put : (at n len : ℕ) (b : Bool) (l m k : List ℕ) → b ≡ lineFits at n len → b ≡ true → k ≡ m
-    → (at + 9 * n ≡ lineEnd at n len) × (k ≡ cond (lineFits at n len) m l)
-unfolding lineEnd
-line-put at n len b l m k e h g = let t : lineFits at n len ≡ true = sym e ∙ h in (rw t, g ∙ rw t)
+pub written : {b fits : Bool} (at end : ℕ) (l m w : List ℕ) → b ≡ fits → b ≡ true → w ≡ m → (end ≡ cond fits end at) × (w ≡ cond fits m l)
+written at end l m w e h g = let t = sym e ∙ h in (rw t, g ∙ rw t)
+
+cond-same {ℓ} : {A : Type ℓ} (t : Bool) (a : A) → a ≡ cond t a a
+cond-same true a = refl
+cond-same false a = refl
+
+-- no words
+pub line-empty : (at len : ℕ) (v : List Float) (l : List ℕ) → length v ≡ 0 → (at ≡ lineEnd at (length v) len) × (l ≡ cond (lineFits at (length v) len) (sets l at (lineOf v)) l)
+unfolding lineEnd lineOf
+line-empty at len [] l h =
+    let p : at + 9 * 0 ≡ at = omega arith in
+    (rw p (cond-same (lineFits at 0 len) at), cond-same (lineFits at 0 len) l)
+line-empty at len (x ∷ v) l h = let q : _≡_ {A = ℕ} 0 1 = omega arith in (cc, cc)
+
+pub lines-room : (at k n len : ℕ) (b : Bool) → b ≡ linesFit at k n len → b ≡ true → (1 ≤ k) × (n % k ≡ 0) × (at + 9 * n ≤ len)
+unfolding linesFit
+lines-room at k n len b e h =
+    let t : (ltb 0 k && (eqb (n % k) 0 && lineFits at n len)) ≡ true = sym e ∙ h in
+    let u = and-right (ltb 0 k) (eqb (n % k) 0 && lineFits at n len) t in
+    (ltb-true _ _ (and-left (ltb 0 k) (eqb (n % k) 0 && lineFits at n len) t), eqb-true _ _ (and-left (eqb (n % k) 0) (lineFits at n len) u), line-room at n len _ refl (and-right (eqb (n % k) 0) (lineFits at n len) u))
+
+-- where more are to come in the line
+pub some-left : (more left : ℕ) → (left ≡ 0 → ⊥) → (32 ≡ separator left) × (left - 1 ≡ toCome more left)
+unfolding separator toCome
+some-left more zero h = absurd (h refl)
+some-left more (suc left) h = (refl, omega arith)
 
 -- a word and what follows it take 9 bytes
 pub line-length : (v : List Float) → length (lineOf v) ≡ 9 * length v

@@ -10,3 +10,4 @@ pub use reader::Kind;
 pub use reader::data;
 pub use reader::header;
 pub use writer::put_line;
+pub use writer::put_lines;

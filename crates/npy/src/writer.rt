@@ -1,11 +1,11 @@
 // Results as words of 8 lowercase hexadecimal digits, a line a row.
 ghost use mathlib.Core.Path.{_≡_};
-ghost use Prim.Native.Nat.{_+_, _*_, _≤_, _<_, _^_};
+ghost use Prim.Native.Nat.{_+_, _*_, _/_, _≤_, _<_};
 ghost use mathlib.Core.Bool.{cond};
 ghost use mathlib.Core.List.{[], _∷_, _++_};
 ghost use lib.ListN.{length};
 ghost use lib.Seq.{sets};
-ghost use Rattle.npy.specs.Word.{hexOf, hexWord, separator, lineOf, lineFits, lineEnd};
+ghost use Rattle.npy.specs.Word.{hexOf, hexWord, lineOf, lineFits, lineEnd, separator, toCome, wordsOf, linesOf, linesFit, linesEnd};
 
 // A sum and no test: the letters come 39 places after where the digits end.
 fn hex(n: u32) -> u8
@@ -31,22 +31,32 @@ fn put_word(out: &mut [u8], o: usize, v: u32, after: u8)
     out[o + 8] = after;
 }
 
-// A space where the i-th of n words is next, a line feed where none is.
-fn separator(i: usize, n: usize) -> u8
-    ensures { λ r. ⌜ r ≡ separator i n ⌝ }
+// A line feed where no word of the line is to come, a space where one is.
+fn separator(left: usize) -> u8
+    ensures { λ r. ⌜ r ≡ separator left ⌝ }
 {
-    if i < n { b' ' } else { b'\n' }
+    if left == 0 { b'\n' } else { b' ' }
 }
 
-fn put_words(values: &[f32], out: &mut [u8], at: usize)
+// How many words of the line are to come after the next one, where so many more come after a line's first.
+fn to_come(more: usize, left: usize) -> usize
+    ensures { λ r. ⌜ r ≡ toCome more left ⌝ }
+{
+    if left == 0 { more } else { left - 1 }
+}
+
+// The words in lines, with so many more words after a line's first.
+fn put_words(values: &[f32], more: usize, out: &mut [u8], at: usize)
     requires { ⌜ at + 9 * length (now values) ≤ length (now out) ⌝ }
-    ensures { λ _. ⌜ now (out .exit) ≡ sets (now (out .entry)) at (lineOf (now (values .entry))) ⌝ }
+    ensures { λ _. ⌜ now (out .exit) ≡ sets (now (out .entry)) at (wordsOf more more (now (values .entry))) ⌝ }
 {
     let n = values.len();
     let mut o = at;
     let mut i = 0;
+    let mut left = more;
     while i < n {
-        put_word(out, o, float::to_bits(values[i]), separator(i + 1, n));
+        put_word(out, o, float::to_bits(values[i]), separator(left));
+        left = to_come(more, left);
         o += 9;
         i += 1;
     }
@@ -66,15 +76,44 @@ fn line_fits(at: usize, n: usize, len: usize) -> bool
     n <= (len - at) / 9
 }
 
+// Whether n words are whole rows of k, and fit from a place on.
+fn lines_fit(at: usize, k: usize, n: usize, len: usize) -> bool
+    ensures { λ r. ⌜ r ≡ linesFit at k n len ⌝ }
+{
+    if k == 0 {
+        return false;
+    }
+    if n % k != 0 {
+        return false;
+    }
+    line_fits(at, n, len)
+}
+
 // Writes a row's line at a place, and answers the place after it. Where it does not fit, nothing is written and the
 // answer is the same place.
 pub fn put_line(out: &mut [u8], at: usize, values: &[f32]) -> usize
     ensures { λ r. ⌜ (r ≡ lineEnd at (length (now (values .entry))) (length (now (out .entry)))) × (now (out .exit) ≡ cond (lineFits at (length (now (values .entry))) (length (now (out .entry)))) (sets (now (out .entry)) at (lineOf (now (values .entry)))) (now (out .entry))) ⌝ }
 {
     let n = values.len();
+    if n == 0 {
+        return at;
+    }
     if !line_fits(at, n, out.len()) {
         return at;
     }
-    put_words(values, out, at);
+    put_words(values, n - 1, out, at);
+    at + 9 * n
+}
+
+// Writes the lines of rows of k values at a place, and answers the place after them. Where the values are no whole rows, or
+// their lines do not fit, nothing is written and the answer is the same place.
+pub fn put_lines(out: &mut [u8], at: usize, k: usize, values: &[f32]) -> usize
+    ensures { λ r. ⌜ (r ≡ linesEnd at k (length (now (values .entry))) (length (now (out .entry)))) × (now (out .exit) ≡ cond (linesFit at k (length (now (values .entry))) (length (now (out .entry)))) (sets (now (out .entry)) at (linesOf k (length (now (values .entry)) / k) (now (values .entry)))) (now (out .entry))) ⌝ }
+{
+    let n = values.len();
+    if !lines_fit(at, k, n, out.len()) {
+        return at;
+    }
+    put_words(values, k - 1, out, at);
     at + 9 * n
 }
