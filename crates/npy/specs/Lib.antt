@@ -6,5 +6,6 @@ pub mod HeaderStart
 pub mod Printed
 pub mod Cell
 pub mod CellLaws
+pub mod Fields
 pub mod Word
 pub mod WordLaws

@@ -5,29 +5,36 @@ ghost use mathlib.Core.Bool.{cond};
 ghost use mathlib.Core.List.{[], _∷_, _++_};
 ghost use lib.ListN.{length};
 ghost use lib.Seq.{sets};
-ghost use Rattle.npy.specs.Word.{hexOf, hexWord, lineOf, lineFits, lineEnd, separator, toCome, wordsOf, linesOf, linesFit, linesEnd};
+ghost use Rattle.npy.specs.Header.{lowFirst};
+ghost use Rattle.npy.specs.Word.{hexWord, lineOf, lineFits, lineEnd, separator, toCome, wordsOf, linesOf, linesFit, linesEnd};
 
-// A sum and no test: the letters come 39 places after where the digits end.
-fn hex(n: u32) -> u8
-    requires { ⌜ n < 16 ⌝ }
-    ensures { λ r. ⌜ r ≡ hexOf n ⌝ }
+// The digits of v as the bytes of one number, the first digit lowest: all of them at once, by halves. First the two halves
+// of v stand apart, then the halves of those, then the digits, and last the letters, which come 39 places after where the digits end.
+fn digits(v: u32) -> u64
+    ensures { λ r. ⌜ r ≡ lowFirst (hexWord v) ⌝ }
 {
-    (n + 48 + (n + 6) / 16 * 39) as u8
+    let v = v as u64;
+    let a = v / 0x1_0000 + v % 0x1_0000 * 0x1_0000_0000;
+    let b = (a & 0x0000_ff00_0000_ff00) / 0x100 + (a & 0x0000_00ff_0000_00ff) * 0x1_0000;
+    let c = (b & 0x00f0_00f0_00f0_00f0) / 0x10 + (b & 0x000f_000f_000f_000f) * 0x100;
+    let letters = ((c + 0x0606_0606_0606_0606) & 0x1010_1010_1010_1010) / 0x10;
+    c + 0x3030_3030_3030_3030 + letters * 39
 }
 
-// The digits of v and what stands after them, into the 9 bytes from o on.
+// The digits of v and what stands after them, into the 9 bytes from o on. Bytes of one number in its own order make one store.
 fn put_word(out: &mut [u8], o: usize, v: u32, after: u8)
     requires { ⌜ o + 9 ≤ length (now out) ⌝ }
     ensures { λ _. ⌜ now (out .exit) ≡ sets (now (out .entry)) o (hexWord v ++ (after ∷ [])) ⌝ }
 {
-    out[o] = hex(v / 0x1000_0000 % 16);
-    out[o + 1] = hex(v / 0x100_0000 % 16);
-    out[o + 2] = hex(v / 0x10_0000 % 16);
-    out[o + 3] = hex(v / 0x1_0000 % 16);
-    out[o + 4] = hex(v / 0x1000 % 16);
-    out[o + 5] = hex(v / 0x100 % 16);
-    out[o + 6] = hex(v / 0x10 % 16);
-    out[o + 7] = hex(v % 16);
+    let d = digits(v);
+    out[o] = (d % 256) as u8;
+    out[o + 1] = (d / 0x100 % 256) as u8;
+    out[o + 2] = (d / 0x1_0000 % 256) as u8;
+    out[o + 3] = (d / 0x100_0000 % 256) as u8;
+    out[o + 4] = (d / 0x1_0000_0000 % 256) as u8;
+    out[o + 5] = (d / 0x100_0000_0000 % 256) as u8;
+    out[o + 6] = (d / 0x1_0000_0000_0000 % 256) as u8;
+    out[o + 7] = (d / 0x100_0000_0000_0000 % 256) as u8;
     out[o + 8] = after;
 }
 

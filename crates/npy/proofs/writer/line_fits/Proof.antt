@@ -1,7 +1,4 @@
-use mathlib.Core.Path.{_≡_, refl}
-use Prim.Native.Nat.{ℕ, _*_, _-_, _/_, _≤_}
 use native.Mathlib.Omega.{arith}
-use lib.Dec.{leb}
 use Rattle.npy.specs.Word.{lineFits}
 use Rattle.npy.specs.WordLaws.{by-product}
 use borrow.Author.Tests.{le-leb, lt-leb}

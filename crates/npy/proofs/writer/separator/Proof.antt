@@ -1,4 +1,3 @@
-use mathlib.Core.Path.{refl}
 use Rattle.npy.specs.Word.{separator}
 use Rattle.npy.specs.WordLaws.{some-left}
 use Rattle.npy.proofs.writer.separator.Statement.{statement}
