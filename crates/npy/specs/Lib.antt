@@ -8,4 +8,5 @@ pub mod Cell
 pub mod CellLaws
 pub mod Fields
 pub mod Word
+pub mod Digits
 pub mod WordLaws

@@ -29,17 +29,17 @@ unfoldable pub lineOf : List Float → List ℕ
 lineOf [] = []
 lineOf (x ∷ xs) = wordOf x ++ (afterWord xs ∷ lineOf xs)
 
--- what stands after a word with so many to come in its line
+-- what stands after a word where `left` words of its line are to come
 unfoldable pub separator : ℕ → ℕ
 separator zero = 10
 separator (suc left) = 32
 
--- how many are to come after the next word, where a line's first has so many after it
+-- and how many are to come after the next word, where `more` come after the first of a line
 unfoldable pub toCome : ℕ → ℕ → ℕ
 toCome more zero = more
 toCome more (suc left) = left
 
--- words in lines one after the other: after the first word so many are to come in its line, and after the first of any other line so many
+-- words in lines, the first of which has `left` words after its first
 unfoldable pub wordsOf : ℕ → ℕ → List Float → List ℕ
 wordsOf more left [] = []
 wordsOf more left (x ∷ xs) = wordOf x ++ (separator left ∷ wordsOf more (toCome more left) xs)

@@ -9,14 +9,13 @@ use lib.ListN.{length, getD, set, take, drop, drop-of-length-le, length-drop, ta
 use lib.Seq.{drop-cons, drop-drop, length-take-le, sets}
 use native.Mathlib.Nat.{div-add-mod'}
 use lib.Dec.{eqb, ltb, leb}
-use lib.Bits.{bitAnd, and-high, and-le-r}
-use lib.Pow.{shl-shr}
 use lib.Ieee as Ieee
 use lib.Ieee.{Float, nan, binary32}
-use borrow.Author.Tests.{le-leb, lt-leb, leb-true, leb-false, ltb-true, ltb-false, eqb-true}
+use borrow.Author.Tests.{le-leb, lt-leb, leb-true, leb-false, ltb-true, eqb-true}
 use Rattle.npy.specs.TextLaws.{and-left, and-right}
 use Rattle.npy.specs.Header.{lowFirst}
-use Rattle.npy.specs.Fields.{fields, Below, halves, halves-below, halved, fields-and, fields-add, fields-mul, fields-same, byte-at}
+use Rattle.npy.specs.Fields.{byte-at}
+use Rattle.npy.specs.Digits.{hex-bytes}
 use Rattle.npy.specs.Word.{hexOf, hexWord, wordOf, afterWord, lineOf, separator, toCome, wordsOf, lineFits, lineEnd, linesOf, linesFit}
 
 -- nine stores one after the other
@@ -33,82 +32,6 @@ sets9 l o a b c d e f g h i =
     let p7 : o + 7 ≡ suc (suc (suc (suc (suc (suc (suc o)))))) = omega arith in
     let p8 : o + 8 ≡ suc (suc (suc (suc (suc (suc (suc (suc o))))))) = omega arith in
     rw (p1, p2, p3, p4, p5, p6, p7, p8)
-
--- a digit is a half of a half of a half
-digit-parts : (v : ℕ) → v < 2 ^ 32
-    → (v / 0x1000_0000 % 16 ≡ v / 0x1_0000 / 0x100 / 16) × (v / 0x100_0000 % 16 ≡ v / 0x1_0000 / 0x100 % 16)
-    × (v / 0x10_0000 % 16 ≡ v / 0x1_0000 % 0x100 / 16) × (v / 0x1_0000 % 16 ≡ v / 0x1_0000 % 0x100 % 16)
-    × (v / 0x1000 % 16 ≡ v % 0x1_0000 / 0x100 / 16) × (v / 0x100 % 16 ≡ v % 0x1_0000 / 0x100 % 16)
-    × (v / 0x10 % 16 ≡ v % 0x1_0000 % 0x100 / 16) × (v % 16 ≡ v % 0x1_0000 % 0x100 % 16)
-digit-parts v h = omega arith
-
-digits : ℕ → List ℕ
-digits v = halves 4 (halves 8 (halves 16 (v ∷ [])))
-
-digits-are : (v : ℕ) → v < 2 ^ 32 → fields 8 hexOf (digits v) ≡ lowFirst (hexWord v)
-unfolding hexWord digits halves fields lowFirst
-digits-are v h = let p = digit-parts v h in rw (← p .0, ← p .1, ← p .2, ← p .3, ← p .4, ← p .5, ← p .6, ← p .7)
-
--- a digit without a test
-hex-sum : (n : ℕ) → n < 16 → n + 48 + (n + 6) / 16 * 39 ≡ hexOf n
-unfolding hexOf
-hex-sum n h = go (ltb n 10) refl
-  where
-    go : (t : Bool) → ltb n 10 ≡ t → n + 48 + (n + 6) / 16 * 39 ≡ cond t (n + 48) (n + 87)
-    go true e = let l : n < 10 = ltb-true n 10 e in omega arith
-    go false e = let l : 10 ≤ n = ltb-false n 10 e in omega arith
-
--- ---- all digits at once: the two halves of a word apart, then the halves of those, then the digits
-
-abbrev pub apart16 : ℕ → ℕ
-apart16 v = v / 0x1_0000 + v % 0x1_0000 * 0x1_0000_0000
-
-abbrev pub apart8 : ℕ → ℕ
-apart8 a = bitAnd a 0x0000_ff00_0000_ff00 / 0x100 + bitAnd a 0x0000_00ff_0000_00ff * 0x1_0000
-
-abbrev pub apart4 : ℕ → ℕ
-apart4 b = bitAnd b 0x00f0_00f0_00f0_00f0 / 0x10 + bitAnd b 0x000f_000f_000f_000f * 0x100
-
--- 1 where a digit is a letter
-abbrev pub letters : ℕ → ℕ
-letters c = bitAnd (c + 0x0606_0606_0606_0606) 0x1010_1010_1010_1010 / 0x10
-
-pub apart4-le : (b : ℕ) → apart4 b ≤ 0x0f0f_0f0f_0f0f_0f0f
-apart4-le b = omega (arith, and-le-r b 0x00f0_00f0_00f0_00f0, and-le-r b 0x000f_000f_000f_000f)
-
-pub letters-le : (c : ℕ) → letters c ≤ 0x0101_0101_0101_0101
-letters-le c = omega (arith, and-le-r (c + 0x0606_0606_0606_0606) 0x1010_1010_1010_1010)
-
-pub digits-at-once : (v : ℕ) → v < 2 ^ 32
-    → apart4 (apart8 (apart16 v)) + 0x3030_3030_3030_3030 + letters (apart4 (apart8 (apart16 v))) * 39 ≡ lowFirst (hexWord v)
-unfolding digits halves fields
-digits-at-once v h =
-    let ps = halves 16 (v ∷ []) in
-    let qs = halves 8 ps in
-    let ds = digits v in
-    let hp : Below (2 ^ 16) ps = halves-below 16 (v ∷ []) (h, tt) in
-    let hq : Below (2 ^ 8) qs = halves-below 8 ps hp in
-    let hd : Below (2 ^ 4) ds = halves-below 4 qs hq in
-    let a : apart16 v ≡ fields 32 (λ p. p) ps = omega arith in
-    let b : apart8 (apart16 v) ≡ fields 16 (λ p. p) qs = rw a (halved 8 ps hp) in
-    let c : apart4 (apart8 (apart16 v)) ≡ fields 8 (λ p. p) ds = rw b (halved 4 qs hq) in
-    let t : letters (fields 8 (λ p. p) ds) ≡ fields 8 (λ d. (d + 6) / 16) ds =
-    rw (fields-add 8 (λ d. d) (λ d. 6) ds, fields-and 8 16 16 (λ d. d + 6) (λ d. (d + 6) / 16 * 16) ds (omega arith) letter hd, ← fields-mul 8 16 (λ d. (d + 6) / 16) ds)
-    (shl-shr (fields 8 (λ d. (d + 6) / 16) ds) 4) in
-    rw (c, t, fields-mul 8 39 (λ d. (d + 6) / 16) ds, fields-add 8 (λ d. d) (λ d. 48) ds, fields-add 8 (λ d. d + 48) (λ d. (d + 6) / 16 * 39) ds)
-    (fields-same 8 16 (λ d. d + 48 + (d + 6) / 16 * 39) hexOf ds hex-sum hd ∙ digits-are v h)
-  where
-    letter : (d : ℕ) → d < 16 → (d + 6 < 2 ^ 8) × (bitAnd (d + 6) 16 ≡ (d + 6) / 16 * 16)
-    letter d l = (omega arith, and-high (d + 6) 1 4 ∙ omega arith)
-
-hex-byte : (n : ℕ) → n < 16 → hexOf n < 256
-hex-byte n h = let e = hex-sum n h in omega arith
-
-hex-bytes : (v : ℕ) → Below 256 (hexWord v)
-unfolding hexWord
-hex-bytes v =
-    let b : (n : ℕ) → hexOf (n % 16) < 256 = λ n. hex-byte (n % 16) (omega arith) in
-    (b (v / 0x1000_0000), (b (v / 0x100_0000), (b (v / 0x10_0000), (b (v / 0x1_0000), (b (v / 0x1000), (b (v / 0x100), (b (v / 0x10), (b v, tt))))))))
 
 -- the bytes of the number that all digits are
 pub word-stored : (l : List ℕ) (o v d i : ℕ) → d ≡ lowFirst (hexWord v)
@@ -166,6 +89,7 @@ words-lines more (suc n) v h =
     ap (wordsOf more more) (sym (take-append-drop (suc more) v)) ∙ words-first more more (take (suc more) v) (drop (suc more) v) (length-take-le (suc more) v a)
     ∙ ap (_++_ (lineOf (take (suc more) v))) (words-lines more n (drop (suc more) v) b)
 
+-- rows of k
 pub words-rows : (k : ℕ) (v : List Float) → 1 ≤ k → length v % k ≡ 0 → wordsOf (k - 1) (k - 1) v ≡ linesOf k (length v / k) v
 words-rows zero v h e = let q : _≡_ {A = ℕ} 0 1 = omega arith in (cc)
 words-rows (suc more) v h e =
@@ -181,7 +105,7 @@ line-room at n len b e h =
     let q : n ≤ (len - at) / 9 = leb-true _ _ (and-right (leb at len) (leb n ((len - at) / 9)) t) in
     omega arith
 
--- what a test refused, and what it let
+-- what is left where a test refuses, and where it does not
 pub kept : {b fits : Bool} (at end : ℕ) (l m : List ℕ) → b ≡ fits → b ≡ false → (at ≡ cond fits end at) × (l ≡ cond fits m l)
 kept at end l m e h = let t = sym e ∙ h in (rw t, rw t)
 

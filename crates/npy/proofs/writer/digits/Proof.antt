@@ -1,7 +1,7 @@
 use native.Mathlib.Omega.{arith}
 use lib.Bits.{and-le-r}
 use borrow.Author.Needs.{needs}
-use Rattle.npy.specs.WordLaws.{apart16, apart8, apart4, apart4-le, letters-le, digits-at-once}
+use Rattle.npy.specs.Digits.{apart16, apart8, apart4, apart4-le, letters-le, digits-at-once}
 use Rattle.npy.proofs.writer.digits.Statement.{statement}
 use Rattle.npy.proofs.writer.digits.Tie as tie
 
