@@ -20,10 +20,10 @@ use Rattle.bank.specs.Bank.{laneAt, put, bankStep}
 use Rattle.bank.specs.BankLaws.{Eight, named}
 use Rattle.bank.specs.Runs.{For, run, after}
 use Rattle.bank.specs.Rows.{updateCalls, roomFor, rowCalls, Whole, valuesOf, rowsOut, rowsBank}
-use Rattle.bank.specs.RowsLaws.{room-is, room-under}
+use Rattle.bank.specs.RowsLaws.{room-is, room-under, values-length, calls-length}
 use Rattle.bank.proofs.Steps.{any}
 use Rattle.bank.specs.Columns.{turnOf, opAt, firstCalls, valueAt, Walked}
-use Rattle.bank.specs.ColumnsLaws.{lt-or-le, own-turn, next-turn, between, turn-within, after-eight, values-count, calls-count, first-count, first-next, first-value, first-all, stays}
+use Rattle.bank.specs.ColumnsLaws.{lt-or-le, own-turn, next-turn, between, turn-within, after-eight, first-count, first-next, first-value, first-all, stays}
 
 -- ---- one lane
 
@@ -128,7 +128,7 @@ as-whole : (k : ℕ) (cells out : List Float) (n : ℕ) → Whole (length cells)
 as-whole k cells out n w = ⊎-elim
     (λ (h : roomFor k (length out) ≤ n). let e : roomFor k (length out) ≡ n = omega (arith, w .under) in ap (λ (x : ℕ). take x (updateCalls k 0 cells)) e)
     (λ (h : length cells < n * 3 + 3).
-    let c = calls-count k 0 n cells (w .fits) h in
+    let c = calls-length k 0 n cells (w .fits) h in
     take-all (roomFor k (length out)) (updateCalls k 0 cells) (omega (arith, c, w .under)) ∙ sym (take-all n (updateCalls k 0 cells) (omega (arith, c)))) (w .all)
 
 -- lanes before this one are as the calls leave them, and their values stand; the others are as they were
@@ -182,7 +182,7 @@ module _ (k : ℕ) (cells out₀ : List Float) (n : ℕ) (b₀ : Bank) where
         let all = as-whole k cells out₀ n w in
         let ys = valuesOf (run b₀ calls) in
         let room : n ≤ length out₀ = omega (arith, w .under, room-under k (length out₀)) in
-        let count : length ys ≡ n = values-count calls b₀ ∙ first-count k cells n (w .fits) in
+        let count : length ys ≡ n = values-length b₀ calls ∙ first-count k cells n (w .fits) in
         let turns : (i : ℕ) → i < n → turnOf k i < L = λ i g. turns-through k (length out₀) n i L (w .under) g (omega arith) in
         let idle-lanes : (i : ℕ) → L ≤ i → laneAt (after b₀ calls) i ≡ laneAt b₀ i = λ i g.
         let z : 0 + n ≡ n = omega arith in

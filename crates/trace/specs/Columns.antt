@@ -30,9 +30,10 @@ use Rattle.bank.specs.SingleLaws.{laneOf, Good, step-as}
 use Rattle.bank.specs.Runs.{For, for, run, after, ofLane}
 use Rattle.bank.specs.RunLaws.{apart}
 use Rattle.bank.specs.Rows.{nextLane, updateCalls, valuesOf}
+use Rattle.bank.specs.RowsLaws.{values-length}
 use Rattle.trace.specs.declared.course.Course.{Course}
 use Rattle.trace.specs.Trace.{refused, openCalls, openedBank, startOf, replayOf, rowWidth, rowCalls, rowLine, rowOn, nextRows}
-use Rattle.trace.specs.TraceLaws.{updateOf, calls-more, row-length, values-length, row-count, Whole, accepted-prints, started, rowsOf, Accepted, accepted-all}
+use Rattle.trace.specs.TraceLaws.{updateOf, calls-more, row-length, row-count, Whole, accepted-prints, started, rowsOf, Accepted, accepted-all}
 
 -- ---- lane after lane
 

@@ -10,7 +10,6 @@ use native.Mathlib.Omega.{arith}
 use lib.ListN.{length, drop, length-drop, length-append}
 use lib.Seq.{drop-drop}
 use lib.Dec.{ltb, leb, eqb}
-use lib.Ieee.{Float}
 use borrow.Author.Tests.{lt-ltb, le-ltb, ltb-true, ltb-false, leb-true, eqb-true, eqb-false}
 use Rattle.refusal.specs.declared.Refusal.{Refusal}
 use Rattle.refusal.specs.declared.Refusal.the-variants as Refusal
@@ -25,10 +24,9 @@ use Rattle.npy.specs.CellLaws.{cells-length}
 use Rattle.npy.specs.WordLaws.{line-length}
 use Rattle.bank.specs.declared.lane.Op.{Op}
 use Rattle.bank.specs.declared.lane.Op.the-variants.{Update}
-use Rattle.bank.specs.declared.Bank.{Bank}
-use Rattle.bank.specs.Bank.{bankStep}
-use Rattle.bank.specs.Runs.{For, for, run}
+use Rattle.bank.specs.Runs.{for, run}
 use Rattle.bank.specs.Rows.{nextLane, updateCalls, valuesOf}
+use Rattle.bank.specs.RowsLaws.{values-length, calls-length}
 use Rattle.trace.specs.declared.course.Course.{Course}
 use Rattle.trace.specs.Trace.{refused, isF4, isCell, settingsBytes, settingsRefusal, openedBank, traceRefusal, traceStart, refusedStart, startOf, replayOf, rowWidth, rowCalls, rowLine, rowOn, nextRows, onRows, refusedLine, restText, endText, rowsText, courseText}
 
@@ -159,11 +157,6 @@ whole-is c s h = go (ltb q (c .left)) refl
 
 -- ---- the length of the text: 9 bytes a lane in every row
 
-pub values-length : (b : Bank) (calls : List (For Op)) → length (valuesOf (run b calls)) ≡ length calls
-unfolding run valuesOf
-values-length b [] = refl
-values-length b (q ∷ qs) = ap suc (values-length (bankStep b (q .lane) (q .thing) .bank) qs)
-
 -- what a lane is updated with: the three cells that a list begins with
 unfoldable pub updateOf : Kind → List ℕ → Op
 updateOf kind s = Update (cellOf kind s) (cellOf kind (drop (cellWidth kind) s)) (cellOf kind (drop (cellWidth kind + cellWidth kind) s))
@@ -178,18 +171,11 @@ calls-more kind k lane n s =
     let f : 3 * w ≡ w + (w + w) = omega arith in
     rw (e, f, ← drop-drop w w s, ← drop-drop (w + w) w s, ← drop-drop w w (drop w s))
 
--- a whole number of triples makes as many calls
-pub calls-length : (k lane m : ℕ) (cells : List Float) → length cells ≡ m * 3 → length (updateCalls k lane cells) ≡ m
-unfolding updateCalls
-calls-length k lane m [] h = omega arith
-calls-length k lane m (r ∷ []) h = absurd (omega arith)
-calls-length k lane m (r ∷ (p ∷ [])) h = absurd (omega arith)
-calls-length k lane zero (r ∷ (p ∷ (q ∷ cells))) h = absurd (omega arith)
-calls-length k lane (suc m) (r ∷ (p ∷ (q ∷ cells))) h = ap suc (calls-length k (nextLane k lane) m cells (omega arith))
-
 pub row-count : (c : Course) (s : List ℕ) → length (rowCalls c s) ≡ c .lanes
 unfolding rowCalls
-row-count c s = calls-length (c .lanes) 0 (c .lanes) (cellsOf (c .kind) (c .lanes * 3) s) (cells-length (c .kind) (c .lanes * 3) s)
+row-count c s =
+    let n = cells-length (c .kind) (c .lanes * 3) s in
+    calls-length (c .lanes) 0 (c .lanes) (cellsOf (c .kind) (c .lanes * 3) s) (omega (arith, n)) (omega (arith, n))
 
 pub row-length : (c : Course) (s : List ℕ) → length (rowLine c s) ≡ 9 * c .lanes
 unfolding rowLine
