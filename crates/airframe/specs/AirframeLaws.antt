@@ -8,9 +8,8 @@ use native.Mathlib.Omega.{arith}
 use lib.ListN.{length, getD, take, drop, set, replicate, length-append, length-drop, length-replicate, replicate-append-replicate, drop-of-length-le}
 use lib.Seq.{drop-cons, sets, sets-eq, take-at, length-take-le, take-all, take-suc-set, getD-take, getD-drop}
 use lib.IntN.{ℤ, pos}
-use lib.Ieee.{Float, nan, inf, fin, lt, ofBits, up, down}
-use Rattle.float.specs.FloatLaws.{above-zero}
-use borrow.Author.Tests.{le-ltb}
+use lib.Ieee.{Float, nan, inf, fin, lt, ofBits}
+use Rattle.float.specs.FloatLaws.{above-zero, zero-not-above}
 use Rattle.float.specs.F32 as F
 use Rattle.refusal.specs.Cases.{when-true, when-false}
 use Rattle.refusal.specs.declared.Refusal.the-variants as Refusal
@@ -77,11 +76,7 @@ aboveZero (fin true m e) = false
 aboveZero (fin false zero e) = false
 aboveZero (fin false (suc m) e) = true
 
--- no zero is above zero, and each number is below +infinity
-zero-not-above : (e : ℤ) → lt F.zero (fin false 0 e) ≡ false
-unfolding lt ofBits
-zero-not-above e = le-ltb (0 * down e) (0 * up e * 1) (omega arith)
-
+-- each number is below +infinity
 below-infinity : (m : ℕ) (e : ℤ) → lt (fin false m e) (inf false) ≡ true
 unfolding lt
 below-infinity m e = refl

@@ -23,7 +23,8 @@ use Rattle.bank.specs.Rows.{updateCalls, roomFor, rowCalls, Whole, value
 use Rattle.bank.specs.RowsLaws.{room-is, room-under, values-length, calls-length}
 use Rattle.bank.proofs.Steps.{any}
 use Rattle.bank.specs.Columns.{turnOf, opAt, firstCalls, valueAt, Walked}
-use Rattle.bank.specs.ColumnsLaws.{lt-or-le, own-turn, next-turn, between, turn-within, after-eight, first-count, first-next, first-value, first-all, stays}
+use Rattle.refusal.specs.Cases.{lt-or-le}
+use Rattle.bank.specs.ColumnsLaws.{own-turn, next-turn, between, turn-within, after-eight, first-count, first-next, first-value, first-all, stays}
 
 -- ---- one lane
 

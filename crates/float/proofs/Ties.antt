@@ -5,12 +5,12 @@ use Prim.Native.Nat.{ℕ, zero, suc, _*_, _%_, _≤_, _<_}
 use native.Mathlib.Omega.{arith}
 use borrow.Author.Tests.{ltb-true, lt-ltb, le-ltb}
 use lib.Dec.{T}
-use lib.Ieee.{Float, nan, inf, fin, binary32, up, down, ne, eq, lt, neg, div, isNan, fits, ofBits, toBits, nanBits}
+use lib.Ieee.{Float, nan, inf, fin, binary32, up, down, ne, eq, lt, neg, isNan, fits, ofBits, toBits, nanBits}
 use lib.Ieee.Bits.{nanBits-is, nanBits-above}
 use Rattle.float.specs.F32 as F
 use Rattle.float.specs.F32.{_/f_}
 use Rattle.float.specs.Float.{negative, clampF, absF}
-use Rattle.float.specs.FloatLaws.{nan-of, is-nan, not-nan, eq-zero, zero-fits, sign-of}
+use Rattle.float.specs.FloatLaws.{nan-is, nan-of, is-nan, not-nan, eq-zero, zero-fits, sign-of}
 
 -- max and min are one rule, but for the test t that prefers b, which fails where b is NaN
 module _ (a b : Float) (t : Bool) (n : isNan b ≡ true → t ≡ false) where
@@ -78,10 +78,6 @@ abs-turns x h = go (lt x F.zero) refl
     go false e = abs-keeps x e h
 
 -- ---- patterns
-
-pub nan-is : nan ≡ F.zero /f F.zero
-unfolding div ofBits
-nan-is = refl
 
 pub nan-pattern : (n : ℕ) → 0x7f80_0000 < n % 0x8000_0000 → F.zero /f F.zero ≡ ofBits binary32 n
 nan-pattern n h = sym nan-is ∙ sym (is-nan (ofBits binary32 n) (sym (nanBits-is binary32 n) ∙ nanBits-above binary32 n ∙ lt-ltb _ _ h))

@@ -13,12 +13,17 @@ use lib.Ieee.{Float, nan, inf, fin, binary32, up, down, below, level, ne, eq, lt
 use lib.Ieee.Fits.{up-pos}
 use lib.Ieee.Compare.{differs-from-itself}
 use Rattle.float.specs.F32 as F
+use Rattle.float.specs.F32.{_/f_}
 use Rattle.float.specs.Float.{negative, clampF}
 
 -- ---- NaN and the tests
 
 pub nan-of : (x : Float) → ne x x ≡ true → x ≡ nan
 nan-of x h = differs-from-itself x (subst T (sym h) tt)
+
+pub nan-is : nan ≡ F.zero /f F.zero
+unfolding div ofBits
+nan-is = refl
 
 pub is-nan : (x : Float) → isNan x ≡ true → x ≡ nan
 unfolding isNan
@@ -110,6 +115,11 @@ zero-equals s e = zeros-level s false (0 * up e * 1) (0 * down e) (omega arith) 
 pub above-zero : (m : ℕ) (e : ℤ) → lt F.zero (fin false (suc m) e) ≡ true
 unfolding lt ofBits
 above-zero m e = lt-ltb (0 * down e) (suc m * up e * 1) (omega (arith, mul-pos (zero-lt-suc m) (up-pos e)))
+
+-- and no zero is
+pub zero-not-above : (e : ℤ) → lt F.zero (fin false 0 e) ≡ false
+unfolding lt ofBits
+zero-not-above e = le-ltb (0 * down e) (0 * up e * 1) (omega arith)
 
 -- beside the zeros, a negative sign is what is below zero
 pub sign-of : (x : Float) → eq x F.zero ≡ false → lt x F.zero ≡ negative x

@@ -8,7 +8,7 @@ use lib.ListN.{length, getD, take, drop, drop-of-length-le, length-drop, length-
 use lib.Seq.{drop-cons, take-nil}
 use lib.Dec.{lit<}
 use mathlib.Core.Logic.{⊎-elim}
-use Rattle.npy.specs.TextLaws.{lt-or-le}
+use Rattle.refusal.specs.Cases.{lt-or-le}
 use mathlib.Core.Bool.{Bool, true, false, cond, _&&_}
 use Prim.Native.Nat.{_%_}
 use native.Mathlib.Nat.{add-sub-cancel-left, min-le-left, zero-add}

@@ -14,7 +14,8 @@ use Rattle.refusal.specs.declared.Refusal.{Refusal}
 use Rattle.refusal.specs.declared.Refusal.the-variants as Refusal
 use Rattle.npy.specs.declared.reader.Head.{Head}
 use Rattle.npy.specs.Text.{begins, within, isDigit, lead, endOf, decimal, rowsAt, rowsEnd, colsAt, colsEnd, placesOf, spelled}
-use Rattle.npy.specs.TextLaws.{lt-or-le, and-left, and-right, spelled-parts, number-size}
+use Rattle.refusal.specs.Cases.{lt-or-le}
+use Rattle.npy.specs.TextLaws.{and-left, and-right, spelled-parts, number-size}
 use Rattle.npy.specs.Header.{magic, refusedHead, acceptedHead, accepted, textHead, textFits, textLength, headerW, widthOf, headerOf}
 use Rattle.npy.specs.HeaderLaws.{fits-parts, width-small, at-within}
 
@@ -85,7 +86,7 @@ begins-take (x ∷ w) [] (suc m) h = refl
 begins-take (x ∷ w) (y ∷ s) zero h = let z : suc (length w) ≤ 0 = h in (let q : _≡_ {A = ℕ} 0 1 = omega arith in (cc))
 begins-take (x ∷ w) (y ∷ s) (suc m) h = ap (λ (b : Bool). cond (eqb y x) b false) (begins-take w s m (omega arith))
 
-leb-take : (k m : ℕ) (s : List ℕ) → k ≤ m → leb k (length (take m s)) ≡ leb k (length s)
+pub leb-take : (k m : ℕ) (s : List ℕ) → k ≤ m → leb k (length (take m s)) ≡ leb k (length s)
 leb-take k m s h =
     ⊎-elim
     (λ (l : length s < k). lt-leb k (length (take m s)) (rw length-take (omega (arith, min-le-right m (length s)))) ∙ sym (lt-leb k (length s) l))
@@ -135,10 +136,6 @@ start-decides m s a b c = rw (width-take m s a, headerW-take (widthOf s) m s b c
 -- the longest header has 1,012 bytes: so many of a file, or all of it, decide its header
 pub window-decides : (m : ℕ) (s : List ℕ) → 1012 ≤ m → headerOf (take m s) ≡ headerOf s
 window-decides m s h = let w = width-small s in start-decides m s (omega arith) (omega arith) (λ l. omega arith)
-
--- any start that has the whole of an accepted header says the same
-pub start-says : (m : ℕ) (s : List ℕ) → accepted (headerOf s) ≡ true → headerOf s .at ≤ m → headerOf (take m s) ≡ headerOf s
-start-says m s h l = let p = data-place s h .0 in start-decides m s (omega arith) (omega arith) (λ g. omega arith)
 
 -- whatever stands after an accepted header's data
 pub more-says : (s r : List ℕ) → accepted (headerOf s) ≡ true → headerOf (s ++ r) ≡ headerOf s

@@ -1,7 +1,7 @@
 -- One turn of each definition over a list of bytes, at a place of the list.
 use mathlib.Core.Path.{_≡_, refl, sym, _∙_}
-use mathlib.Core.Logic.{_⊎_, inl, inr, ⊎-elim}
-use borrow.Author.Tests.{le-leb, lt-leb, ltb-true, ltb-false, leb-true, eqb-true}
+use mathlib.Core.Logic.{⊎-elim}
+use borrow.Author.Tests.{le-leb, lt-leb, leb-true, eqb-true}
 use mathlib.Core.List.{List, [], _∷_}
 use mathlib.Core.Bool.{Bool, true, false, cond, not, _&&_, _||_}
 use Prim.Native.Nat.{ℕ, suc, _+_, _*_, _-_, _≤_, _<_, _^_}
@@ -11,15 +11,9 @@ use native.Mathlib.Nat.{add-zero, pow-suc, pow-le-pow-right}
 use lib.ListN.{length, getD, take, drop, drop-of-length-le, length-drop}
 use lib.Seq.{drop-cons}
 use lib.Dec.{eqb, leb, ltb, lit<}
+use Rattle.refusal.specs.Cases.{lt-or-le}
 use Rattle.npy.specs.declared.reader.Places.{Places}
 use Rattle.npy.specs.Text.{begins, isKind, isDigit, isSpace, lead, endOf, decimal, kindFits, isNumber, opening, middle, comma, closing, ending, kindEnd, rowsAt, rowsEnd, colsAt, colsEnd, feedAt, placesOf, frontSpelled, shapeSpelled, endSpelled, spelled}
-
-pub lt-or-le : (a b : ℕ) → (a < b) ⊎ (b ≤ a)
-lt-or-le a b = pick (ltb a b) refl
-  where
-    pick : (t : Bool) → ltb a b ≡ t → (a < b) ⊎ (b ≤ a)
-    pick true e = inl (ltb-true a b e)
-    pick false e = inr (ltb-false a b e)
 
 begins-step : (s w : List ℕ) (i j : ℕ) → i < length s → j < length w
     → begins (drop i s) (drop j w) ≡ cond (eqb (getD s i 0) (getD w j 0)) (begins (drop (i + 1) s) (drop (j + 1) w)) false

@@ -5,6 +5,7 @@ mod writer;
 
 pub use decoder::cell;
 pub use decoder::cells;
+pub use decoder::least;
 pub use reader::Head;
 pub use reader::Kind;
 pub use reader::data;

@@ -1,6 +1,10 @@
 -- A definition picks between two answers by a test, `cond`: the one that it gives where the test is known.
-use mathlib.Core.Path.{_≡_}
+use mathlib.Core.Path.{_≡_, refl}
 use mathlib.Core.Bool.{Bool, true, false, cond, not, _&&_}
+use mathlib.Core.Logic.{_⊎_, inl, inr}
+use Prim.Native.Nat.{ℕ, _<_, _≤_}
+use lib.Dec.{ltb}
+use borrow.Author.Tests.{ltb-true, ltb-false}
 
 pub when-true : {A : Type 0} (t : Bool) (a b : A) → t ≡ true → a ≡ cond t a b
 when-true t a b h = simp h
@@ -14,3 +18,11 @@ first-fails p q h = simp h
 
 pub first-holds : (p q : Bool) → p ≡ true → not q ≡ not (p && q)
 first-holds p q h = simp h
+
+-- of two numbers
+pub lt-or-le : (a b : ℕ) → (a < b) ⊎ (b ≤ a)
+lt-or-le a b = go (ltb a b) refl
+  where
+    go : (t : Bool) → ltb a b ≡ t → (a < b) ⊎ (b ≤ a)
+    go true e = inl (ltb-true a b e)
+    go false e = inr (ltb-false a b e)

@@ -2,34 +2,25 @@
 use mathlib.Core.Path.{_≡_, refl, sym, ap, _∙_}
 use mathlib.Core.Bool.{true, false, not, true≢false}
 use Prim.Native.Nat.{ℕ, zero, suc, _*_, _%_, _^_, _<_}
-use native.Mathlib.Nat.{zero-mul}
 use native.Mathlib.Omega.{arith}
-use lib.IntN.{ℤ}
 use lib.Arith.{le→nltb}
 use lib.Dec.{T}
-use lib.Ieee.{Float, nan, inf, fin, binary32, ofBits, toBits, nanBits, isNan, fits, lt, eq, up, down}
+use lib.Ieee.{Float, nan, inf, fin, binary32, ofBits, toBits, nanBits, isNan, fits, lt, eq}
 use lib.Ieee.Bits.{ofBits-toBits, nanBits-above}
 use Rattle.float.specs.F32 as F
-use Rattle.float.specs.FloatLaws.{lt-right, eq-zero, zero-equals, above-zero}
+use Rattle.float.specs.FloatLaws.{lt-right, eq-zero, zero-equals, above-zero, zero-not-above}
 use Rattle.root.specs.Root.{root, rootBits}
+use Rattle.root.specs.RootRule.{root-infinity}
 use Rattle.root.specs.RootLaws.{root-finite}
 use Rattle.root.specs.Values.{infinite}
 
 pub not-nan : (x : Float) → lt F.zero x ≡ true → T (not (isNan x))
 not-nan x h = let e : isNan x ≡ false = lt-right F.zero x h in rw e tt
 
-root-infinite : root (inf false) ≡ inf false
-unfolding root
-root-infinite = refl
-
 pub at-infinity : (x : Float) → T (fits binary32 x) → toBits binary32 x ≡ 0x7f80_0000 → x ≡ root x
 at-infinity x fit e =
     let i : x ≡ inf false = sym (ofBits-toBits binary32 x fit) ∙ ap (ofBits binary32) e ∙ infinite in
-    i ∙ sym root-infinite ∙ sym (ap root i)
-
-nothing : (e : ℤ) → lt F.zero (fin false 0 e) ≡ false
-unfolding lt ofBits
-nothing e = rw (zero-mul (down e), zero-mul (up e))
+    i ∙ sym root-infinity ∙ sym (ap root i)
 
 pub at-number : (x : Float) → lt F.zero x ≡ true → (toBits binary32 x ≡ 0x7f80_0000 → ⊥) → ofBits binary32 (rootBits (toBits binary32 x)) ≡ root x
 unfolding root lt ofBits
@@ -37,7 +28,7 @@ at-number nan h f = absurd (true≢false (sym h))
 at-number (inf true) h f = absurd (true≢false (sym h))
 at-number (inf false) h f = absurd (f (unfold toBits in refl))
 at-number (fin true m e) h f = absurd (true≢false (sym h))
-at-number (fin false zero e) h f = absurd (true≢false (sym h ∙ nothing e))
+at-number (fin false zero e) h f = absurd (true≢false (sym h ∙ zero-not-above e))
 at-number (fin false (suc m) e) h f = refl
 
 pub at-zero : (x : Float) → eq x F.zero ≡ true → x ≡ root x

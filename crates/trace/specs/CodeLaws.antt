@@ -1,11 +1,11 @@
 -- What the code's answers are, case by case. Assumes nothing.
-use mathlib.Core.Path.{_≡_, refl, sym, ap, _∙_, subst}
-use mathlib.Core.List.{List, [], _∷_, _++_}
+use mathlib.Core.Path.{_≡_, refl, sym, _∙_, subst}
+use mathlib.Core.List.{List, _∷_}
 use mathlib.Core.Bool.{Bool, true, false, cond, _&&_, true≢false}
-use Prim.Native.Nat.{ℕ, zero, suc, _+_, _-_, _*_, _≤_, _<_}
+use Prim.Native.Nat.{ℕ, suc, _+_, _-_, _*_, _≤_, _<_}
 use native.Mathlib.Omega.{arith}
-use borrow.Author.Tests.{ltb-true, ltb-false, leb-true, eqb-true, eqb-false, lt-ltb, le-ltb, le-leb, lt-leb, eq-eqb, ne-eqb}
-use lib.Dec.{ltb, leb, eqb}
+use borrow.Author.Tests.{ltb-false, leb-true, eqb-false, le-leb, lt-leb, eq-eqb, ne-eqb}
+use lib.Dec.{leb, eqb}
 use lib.Ieee.{Float}
 use lib.ListN.{length, take, drop, length-drop}
 use lib.Seq.{drop-drop}
@@ -15,7 +15,7 @@ use Rattle.refusal.specs.Refusal.{numberOf}
 use Rattle.npy.specs.declared.reader.Kind.{Kind}
 use Rattle.npy.specs.declared.reader.Kind.the-variants.{F4}
 use Rattle.npy.specs.declared.reader.Head.{Head}
-use Rattle.npy.specs.Header.{cellWidth, accepted, headerOf}
+use Rattle.npy.specs.Header.{accepted, headerOf}
 use Rattle.npy.specs.HeaderLaws.{to-end, at-within}
 use Rattle.npy.specs.Cell.{cellOf, cellsOf}
 use Rattle.bank.specs.declared.lane.Op.the-variants.{Open}
@@ -23,7 +23,6 @@ use Rattle.bank.specs.declared.lane.SlewLimit.the-variants.{Off}
 use Rattle.bank.specs.declared.Bank.{Bank}
 use Rattle.bank.specs.Bank.{freshBank, bankStep}
 use Rattle.bank.specs.Runs.{after}
-use Rattle.trace.specs.declared.course.Course.{Course}
 use Rattle.trace.specs.declared.course.Begun.{Begun}
 use Rattle.trace.specs.Trace.{refused, isF4, isCell, settingsRefusal, openCalls, openedBank, traceRefusal, refusedStart, traceStart, startOf}
 

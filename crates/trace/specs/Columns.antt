@@ -23,7 +23,7 @@ use Rattle.bank.specs.declared.lane.Answer.{Answer}
 use Rattle.bank.specs.declared.Bank.{Bank}
 use Rattle.bank.specs.Lane.{plain}
 use Rattle.bank.specs.Bank.{freshBank, laneAt, bankStep}
-use Rattle.bank.specs.BankLaws.{Eight, fresh-eight, fresh-closed, step-eight}
+use Rattle.bank.specs.BankLaws.{Eight, fresh-eight, fresh-closed}
 use Rattle.rate_pid.specs.RatePid.{newRate}
 use Rattle.bank.specs.Single.{Single, none, one, newSingle, singleStep, singleRun, singleAfter}
 use Rattle.bank.specs.SingleLaws.{laneOf, Good, step-as}
@@ -31,6 +31,7 @@ use Rattle.bank.specs.Runs.{For, for, run, after, ofLane}
 use Rattle.bank.specs.RunLaws.{apart}
 use Rattle.bank.specs.Rows.{nextLane, updateCalls, valuesOf}
 use Rattle.bank.specs.RowsLaws.{values-length}
+use Rattle.bank.specs.ColumnsLaws.{after-eight}
 use Rattle.trace.specs.declared.course.Course.{Course}
 use Rattle.trace.specs.Trace.{refused, openCalls, openedBank, startOf, replayOf, rowWidth, rowCalls, rowLine, rowOn, nextRows}
 use Rattle.trace.specs.TraceLaws.{updateOf, calls-more, row-length, row-count, Whole, accepted-prints, started, rowsOf, Accepted, accepted-all}
@@ -154,11 +155,6 @@ pub record Lies (L : ℕ) (b : Bank) (c : Single) : Type 0 where
   pub here : laneAt b L ≡ laneOf c
   pub good : Good c
 
-eight-after : (calls : List (For Op)) (b : Bank) → Eight b → Eight (after b calls)
-unfolding after
-eight-after [] b h = h
-eight-after (q ∷ qs) b h = eight-after qs (bankStep b (q .lane) (q .thing) .bank) (step-eight b (q .lane) (q .thing) h)
-
 good-after : (ops : List Op) (c : Single) → Good c → Good (singleAfter c ops)
 unfolding singleAfter
 good-after [] c g = g
@@ -171,7 +167,7 @@ fresh-lies L h = record { eight = fresh-eight; here = fresh-closed L h; good = r
 pub lies-after : (L : ℕ) → L ≤ 7 → (calls : List (For Op)) (b : Bank) (c : Single) → Lies L b c → Lies L (after b calls) (singleAfter c (ofLane L calls))
 lies-after L h calls b c l =
     record {
-      eight = eight-after calls b (l .eight);
+      eight = after-eight calls b (l .eight);
       here = apart L h calls b c (l .eight) (l .here) (l .good) .left;
       good = good-after (ofLane L calls) c (l .good);
     }

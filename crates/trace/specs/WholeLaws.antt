@@ -4,7 +4,7 @@ use mathlib.Core.List.{List, [], _∷_, _++_, append-nil}
 use mathlib.Core.Bool.{Bool, true, false, cond, not, _&&_, true≢false}
 use Prim.Native.Nat.{ℕ, zero, suc, _+_, _-_, _*_, _/_, _≤_, _<_}
 use mathlib.Core.Logic.{⊎-elim, inl, inr}
-use Rattle.npy.specs.TextLaws.{lt-or-le}
+use Rattle.refusal.specs.Cases.{lt-or-le}
 use Rattle.npy.specs.HeaderStart.{shape-small}
 use native.Mathlib.Nat.{suc-mul, zero-mul, mul-assoc, mul-comm, mul-le-mul-right, le-trans, lt-div-mul-add, div-mul-le-self, div-eq-sub-div, mul-le-mul}
 use native.Mathlib.Omega.{arith}

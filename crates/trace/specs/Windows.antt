@@ -10,15 +10,14 @@ use native.Mathlib.Omega.{arith}
 use lib.Dec.{leb, eqb}
 use lib.ListN.{length, take, drop, length-drop, length-take, length-append}
 use lib.Seq.{take-nil, take-append-seam, drop-append-le}
-use borrow.Author.Tests.{le-leb, lt-leb, leb-true}
+use borrow.Author.Tests.{leb-true}
 use Rattle.refusal.specs.declared.Refusal.{Refusal}
 use Rattle.refusal.specs.declared.Refusal.the-variants as Refusal
 use Rattle.npy.specs.declared.reader.Kind.{Kind}
 use Rattle.npy.specs.declared.reader.Kind.the-variants.{F4}
 use Rattle.npy.specs.declared.reader.Head.{Head}
-use Rattle.npy.specs.TextLaws.{lt-or-le}
 use Rattle.npy.specs.HeaderLaws.{at-within}
-use Rattle.npy.specs.HeaderStart.{window-decides}
+use Rattle.npy.specs.HeaderStart.{leb-take, window-decides}
 use Rattle.npy.specs.CellLaws.{cells-start-only}
 use Rattle.npy.specs.Header.{cellWidth, headerOf, accepted}
 use Rattle.npy.specs.Cell.{cellsOf}
@@ -134,14 +133,6 @@ at-once-joined (bytes ∷ more) c kept = ap (λ (l : List ℕ). bytes ++ l) (at-
 -- ---- the start: 2,184 bytes decide it, two headers (of at most 1,012 bytes each) and the settings of eight lanes
 
 -- so many bytes are there, or not, all the same
-long-take : (a n : ℕ) (s : List ℕ) → a ≤ n → leb a (length (take n s)) ≡ leb a (length s)
-long-take a n s h =
-    rw length-take
-    (⊎-elim
-    (λ (l : length s < a). lt-leb a (min n (length s)) (omega arith) ∙ sym (lt-leb _ _ l))
-    (λ (l : a ≤ length s). le-leb a (min n (length s)) (omega arith) ∙ sym (le-leb _ _ l))
-    (lt-or-le (length s) a))
-
 -- so the data of an array begin there at the latest
 pub at-small : (s : List ℕ) → headerOf s .at ≤ 1012
 at-small s =
@@ -167,7 +158,7 @@ settings-take n s h l = go (leb 1 (h .rows)) (leb (h .rows) 8) refl (eqb (h .col
     X t = cond t Refusal.None Refusal.Cut
 
     same : h .rows ≤ 8 → leb (h .at + settingsBytes (h .rows)) (length (take n s)) ≡ leb (h .at + settingsBytes (h .rows)) (length s)
-    same m = long-take (h .at + settingsBytes (h .rows)) n s (omega arith)
+    same m = leb-take (h .at + settingsBytes (h .rows)) n s (omega arith)
 
     go : (a b : Bool) → leb (h .rows) 8 ≡ b → (d : Bool)
         → cond (accepted h) (cond (isF4 (h .kind)) (cond (a && (b && d)) (X (leb (h .at + settingsBytes (h .rows)) (length (take n s)))) Refusal.Shape) Refusal.Kind) (h .refusal)

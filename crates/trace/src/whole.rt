@@ -13,10 +13,10 @@ use crate::course::Course;
 use crate::course::Replayed;
 use crate::ending::end;
 use crate::ending::refused_line;
-use crate::going::least;
 use crate::going::rows;
 use crate::opening::refused;
 use crate::opening::start;
+use npy::least;
 use refusal::Refusal;
 
 // How many bytes the line of a refusal has.

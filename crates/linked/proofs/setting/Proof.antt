@@ -1,7 +1,7 @@
-use lib.Ieee.{binary32, ofBits, div}
 use lib.ListN.{List·getD-eq-default}
 use lib.Ieee.{nan}
-use mathlib.Core.Path.{_≡_, refl, sym, _∙_}
+use mathlib.Core.Path.{sym, _∙_}
+use Rattle.float.specs.FloatLaws.{nan-is}
 use borrow.Author.Needs.{needs}
 use Rattle.linked.proofs.setting.Statement.{statement}
 use Rattle.linked.proofs.setting.Tie as tie
@@ -15,12 +15,8 @@ shared-slice-read-result c = search needs
 returns : tie.Need-returns
 returns c = search needs
 
-nan-is : div binary32 (ofBits binary32 0) (ofBits binary32 0) ≡ nan
-unfolding div ofBits
-nan-is = refl
-
 returns-2 : tie.Need-returns-2
-returns-2 c = nan-is ∙ sym (List·getD-eq-default (c .before .args .s .now) nan (c .if1 .left))
+returns-2 c = sym nan-is ∙ sym (List·getD-eq-default (c .before .args .s .now) nan (c .if1 .left))
 
 pub setting-spec : {M : Type 1} → statement M
 setting-spec = tie.close (tie.spec mul-result shared-slice-read-result returns returns-2)

@@ -1,8 +1,9 @@
-use mathlib.Core.Path.{_≡_, refl, sym, ap, _∙_, subst}
+use mathlib.Core.Path.{sym, ap, _∙_, subst}
 use mathlib.Core.Bool.{not}
 use lib.Dec.{T}
-use lib.Ieee.{binary32, fits, ofBits, toBits, nanBits, div, nan}
+use lib.Ieee.{binary32, fits, ofBits, toBits, nanBits}
 use Prim.Native.Nat.{ℕ}
+use Rattle.float.specs.FloatLaws.{nan-is}
 use Rattle.root.specs.Values.{no-sign, some-bits}
 use Rattle.root.proofs.Ties.{not-nan, at-infinity, at-number, at-zero, neither, no-nan}
 use Rattle.root.proofs.sqrt.Statement.{statement}
@@ -39,12 +40,8 @@ returns-2 c =
 returns-3 : tie.Need-returns-3
 returns-3 c = at-zero (c .before .before .args .x) (c .if3 .taken)
 
-nan-is : div binary32 (ofBits binary32 0) (ofBits binary32 0) ≡ nan
-unfolding div ofBits
-nan-is = refl
-
 returns-4 : tie.Need-returns-4
-returns-4 c = nan-is ∙ neither (c .before .before .args .x) (c .before .if1 .left) (c .if3 .left)
+returns-4 c = sym nan-is ∙ neither (c .before .before .args .x) (c .before .if1 .left) (c .if3 .left)
 
 pub sqrt-spec : {M : Type 1} → statement M
 sqrt-spec = tie.close (tie.spec float-to-bits-b returns root-bits-requires float-from-bits-result returns-2 returns-3 returns-4)

@@ -1,4 +1,3 @@
-use mathlib.Core.Path.{refl}
 use borrow.Author.Needs.{needs}
 use Rattle.rate_pid.specs.RatePid.{zeroRate, zeroLowpass}
 use Rattle.rate_pid.proofs.RatePid.zero.Statement.{statement}

@@ -1,16 +1,12 @@
 use lib.ListN.{length-set}
 use lib.Seq.{sets}
 use Rattle.trace.specs.EndLaws.{text-more, text-done}
-use mathlib.Core.Path.{_≡_, refl, sym, ap, subst, _∙_}
-use Prim.Native.Nat.{ℕ, _≤_, _<_, _-_, _+_, _*_}
+use mathlib.Core.Path.{_≡_, refl, _∙_}
+use Prim.Native.Nat.{_≤_, _-_, _+_}
 use native.Mathlib.Omega.{arith}
-use lib.ListN.{length, drop, getD}
-use borrow.Author.Needs.{needs}
-use borrow.Author.Tests.{eq-eqb, ne-eqb, lt-ltb, le-ltb, le-leb, lt-leb}
+use lib.ListN.{length, drop}
 use Rattle.trace.proofs.ending.put.Statement.{statement}
 use Rattle.trace.proofs.ending.put.Tie as tie
-use Rattle.trace.proofs.ending.put.Reads as reads
-use Rattle.trace.proofs.ending.put.Lts as lts
 
 abbrev Inv-loop : tie.InvT-loop
 Inv-loop out₀ at text i₀ o₀ out i o = (sets out o (drop i text) ≡ sets out₀ at text) × (length out ≡ length out₀) × (o ≡ at + i) × (i ≤ length text)
@@ -18,41 +14,32 @@ Inv-loop out₀ at text i₀ o₀ out i o = (sets out o (drop i text) ≡ sets o
 abbrev μ-loop : tie.MeasureT-loop
 μ-loop out₀ at text i₀ o₀ out i o = length text - i
 
--- src/ending.rt:18:5
 loop-holds : tie.Need-loop-holds Inv-loop μ-loop
 loop-holds c = (refl, refl, omega arith, omega arith)
 
--- src/ending.rt:19:18
 shared-slice-read-out : tie.Need-shared-slice-read-out Inv-loop μ-loop
 shared-slice-read-out c = omega arith
 
--- src/ending.rt:19:9
 slice-write-out : tie.Need-slice-write-out Inv-loop μ-loop
 slice-write-out c = omega arith
 
--- src/ending.rt:20:9
 add-i : tie.Need-add-i Inv-loop μ-loop
 add-i c = omega arith
 
--- src/ending.rt:21:9
 add-o : tie.Need-add-o Inv-loop μ-loop
 add-o c = omega arith
 
--- src/ending.rt:18:5
 loop-less : tie.Need-loop-less Inv-loop μ-loop
 loop-less c = omega arith
 
--- src/ending.rt:18:5
 loop-again : tie.Need-loop-again Inv-loop μ-loop
 loop-again c =
     let at = c .before .before in
     (text-more (at .before .args .text .now) (at .loop .out) (at .loop .i) (at .loop .o) (c .before .loop-test .taken) ∙ at .loop .inv .0, simp length-set (at .loop .inv .1), omega arith, omega arith)
 
--- src/ending.rt:12:1
 same-length : tie.Need-same-length Inv-loop μ-loop
 same-length c = c .before .loop .inv .1
 
--- src/ending.rt:12:1
 returns : tie.Need-returns Inv-loop μ-loop
 returns c =
     let at = c .before in

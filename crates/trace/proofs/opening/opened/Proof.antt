@@ -3,19 +3,12 @@ use Rattle.npy.specs.Cell.{cellsOf}
 use Rattle.bank.specs.Runs.{after}
 use Rattle.trace.specs.Trace.{openCalls, openedBank}
 use Rattle.trace.specs.CodeLaws.{open-more, open-done, open-start}
-use mathlib.Core.Path.{_≡_, refl, sym, ap, subst, _∙_}
-use Prim.Native.Nat.{ℕ, _≤_, _<_, _-_, _+_, _*_}
+use mathlib.Core.Path.{_≡_, refl, _∙_}
+use Prim.Native.Nat.{_-_, _*_}
 use native.Mathlib.Omega.{arith}
-use lib.ListN.{length, drop, getD}
-use borrow.Author.Needs.{needs}
-use borrow.Author.Tests.{eq-eqb, ne-eqb, lt-ltb, le-ltb, le-leb, lt-leb}
+use lib.ListN.{drop}
 use Rattle.trace.proofs.opening.opened.Statement.{statement}
 use Rattle.trace.proofs.opening.opened.Tie as tie
-use Rattle.trace.proofs.opening.opened.Reads as reads
-use Rattle.trace.proofs.opening.opened.Lts as lts
-use Rattle.bank.proofs.Bank.fresh.Reads as fresh-reads
-use Rattle.bank.proofs.Bank.open.Reads as open-reads
-use Rattle.npy.proofs.cell.Reads as cell-reads
 
 abbrev Inv-loop : tie.InvT-loop
 Inv-loop k settings bank₀ lane₀ at₀ bank lane at = (after bank (openCalls lane (cellsOf F4 ((k - lane) * 5) (drop at settings))) ≡ openedBank k settings) × (at ≡ lane * 20)
@@ -23,74 +16,57 @@ Inv-loop k settings bank₀ lane₀ at₀ bank lane at = (after bank (openCalls 
 abbrev μ-loop : tie.MeasureT-loop
 μ-loop k settings bank₀ lane₀ at₀ bank lane at = k - lane
 
--- src/opening.rt:102:9
 fresh-requires : tie.Need-fresh-requires Inv-loop μ-loop
 fresh-requires c κs = tt
 
--- src/opening.rt:105:5
 loop-holds : tie.Need-loop-holds Inv-loop μ-loop
 loop-holds c = (open-start _ _ _ (c .fresh .ensures), refl)
 
--- src/opening.rt:106:13
 cell-requires : tie.Need-cell-requires Inv-loop μ-loop
 cell-requires c κs = tt
 
--- src/opening.rt:107:48
 add-cell : tie.Need-add-cell Inv-loop μ-loop
 add-cell c = omega arith
 
--- src/opening.rt:107:13
 cell-requires-2 : tie.Need-cell-requires-2 Inv-loop μ-loop
 cell-requires-2 c κs = tt
 
--- src/opening.rt:108:48
 add-cell-2 : tie.Need-add-cell-2 Inv-loop μ-loop
 add-cell-2 c = omega arith
 
--- src/opening.rt:108:13
 cell-requires-3 : tie.Need-cell-requires-3 Inv-loop μ-loop
 cell-requires-3 c κs = tt
 
--- src/opening.rt:109:49
 add-cell-3 : tie.Need-add-cell-3 Inv-loop μ-loop
 add-cell-3 c = omega arith
 
--- src/opening.rt:109:13
 cell-requires-4 : tie.Need-cell-requires-4 Inv-loop μ-loop
 cell-requires-4 c κs = tt
 
--- src/opening.rt:110:48
 add-cell-4 : tie.Need-add-cell-4 Inv-loop μ-loop
 add-cell-4 c = omega arith
 
--- src/opening.rt:110:13
 cell-requires-5 : tie.Need-cell-requires-5 Inv-loop μ-loop
 cell-requires-5 c κs = tt
 
--- src/opening.rt:111:13
 open-requires : tie.Need-open-requires Inv-loop μ-loop
 open-requires c κs = tt
 
--- src/opening.rt:113:9
 add-lane : tie.Need-add-lane Inv-loop μ-loop
 add-lane c = omega arith
 
--- src/opening.rt:114:9
 add-at : tie.Need-add-at Inv-loop μ-loop
 add-at c = omega arith
 
--- src/opening.rt:105:5
 loop-less : tie.Need-loop-less Inv-loop μ-loop
 loop-less c = omega arith
 
--- src/opening.rt:105:5
 loop-again : tie.Need-loop-again Inv-loop μ-loop
 loop-again c =
     let b = c .before .before .before .before .before .before in
     let at = b .before .before in
     (rw (c .before .«open» .ensures) (open-more (at .before .before .before .args .settings .now) _ (at .loop .lane) (at .loop .at) (at .loop .bank) _ _ _ _ _ (b .before .loop-test .taken) (b .cell .ensures) (c .before .before .before .before .before .cell2 .ensures) (c .before .before .before .before .cell3 .ensures) (c .before .before .before .cell4 .ensures) (c .before .before .cell5 .ensures) ∙ at .loop .inv .0), omega arith)
 
--- src/opening.rt:98:1
 returns : tie.Need-returns Inv-loop μ-loop
 returns c =
     let at = c .before in

@@ -1,66 +1,46 @@
 use borrow.Author.Tests.{not-true, not-false}
 use Rattle.trace.specs.CodeLaws.{settings-header, settings-kind, settings-shape, settings-cut, settings-none, rows-shape}
-use mathlib.Core.Path.{_≡_, refl, sym, ap, subst, _∙_}
-use Prim.Native.Nat.{ℕ, _≤_, _<_, _-_, _+_, _*_}
 use native.Mathlib.Omega.{arith}
-use lib.ListN.{length, drop, getD}
-use borrow.Author.Needs.{needs}
-use borrow.Author.Tests.{eq-eqb, ne-eqb, lt-ltb, le-ltb, le-leb, lt-leb}
 use borrow.Author.Needs.{needs}
 use Rattle.trace.proofs.opening.settings_refusal.Statement.{statement}
 use Rattle.trace.proofs.opening.settings_refusal.Tie as tie
-use Rattle.trace.proofs.opening.settings_refusal.Reads as reads
-use Rattle.trace.proofs.opening.settings_refusal.Lts as lts
-use Rattle.refusal.proofs.Refusal.number.Reads as number-reads
-use Rattle.trace.proofs.opening.is_f4.Reads as is-f4-reads
-use Rattle.trace.proofs.opening.settings_shape.Reads as settings-shape-reads
 
--- src/opening.rt:63:8
 number-requires : tie.Need-number-requires
 number-requires c κs = search needs
 
--- src/opening.rt:64:9
 returns : tie.Need-returns
 returns c = settings-header _ _ _ (c .before .number .ensures) (c .if1 .taken)
 
--- src/opening.rt:66:9
 is-f4-requires : tie.Need-is-f4-requires
 is-f4-requires c κs = search needs
 
--- src/opening.rt:67:9
 returns-2 : tie.Need-returns-2
 returns-2 c =
     let b = c .before .before in
     settings-kind _ _ _ _ (b .before .number .ensures) (b .if1 .left) (c .before .is-f4 .ensures) (not-true _ (c .if2 .taken))
 
--- src/opening.rt:69:9
 settings-shape-requires : tie.Need-settings-shape-requires
 settings-shape-requires c κs = search needs
 
--- src/opening.rt:70:9
 returns-3 : tie.Need-returns-3
 returns-3 c =
     let b = c .before .before .before .before in
     settings-shape _ _ _ _ _ (b .before .number .ensures) (b .if1 .left) (c .before .before .before .is-f4 .ensures) (not-false _ (c .before .before .if2 .left)) (c .before .settings-shape .ensures) (not-true _ (c .if3 .taken))
 
--- src/opening.rt:72:8
 sub-if4 : tie.Need-sub-if4
 sub-if4 c = search needs
 
--- src/opening.rt:72:24
 mul-if4 : tie.Need-mul-if4
 mul-if4 c =
     let h = c .before .before .before .before .before .before .before .before .args .head in
     omega (arith, rows-shape (h .rows) (h .cols) _ (c .before .before .before .settings-shape .ensures) (not-false _ (c .before .before .if3 .left)) .1)
 
--- src/opening.rt:73:9
 returns-4 : tie.Need-returns-4
 returns-4 c =
     let b = c .before .before .before in
     let a = b .before .before .before .before in
     settings-cut _ _ _ _ _ (a .before .number .ensures) (a .if1 .left) (b .before .before .before .is-f4 .ensures) (not-false _ (b .before .before .if2 .left)) (b .before .settings-shape .ensures) (not-false _ (b .if3 .left)) (a .before .before .pre) (c .if4 .taken)
 
--- src/opening.rt:57:1
 returns-5 : tie.Need-returns-5
 returns-5 c =
     let b = c .before .before .before in

@@ -1,19 +1,12 @@
 use lib.Seq.{length-sets}
-use Rattle.trace.specs.Trace.{courseText, rowWidth}
+use Rattle.trace.specs.Trace.{courseText}
 use Rattle.trace.specs.WholeLaws.{Printing, print-start, turn, printed, printable-still, cells-still, values-still}
-use mathlib.Core.Path.{_≡_, refl, sym, ap, subst, _∙_}
-use Prim.Native.Nat.{ℕ, _≤_, _<_, _-_, _+_, _*_}
+use mathlib.Core.Path.{_≡_, refl, ap, _∙_}
 use native.Mathlib.Omega.{arith}
-use lib.ListN.{length, drop, getD}
+use lib.ListN.{length}
 use borrow.Author.Needs.{needs}
-use borrow.Author.Tests.{eq-eqb, ne-eqb, lt-ltb, le-ltb, le-leb, lt-leb}
 use Rattle.trace.proofs.whole.print.Statement.{statement}
 use Rattle.trace.proofs.whole.print.Tie as tie
-use Rattle.trace.proofs.whole.print.Reads as reads
-use Rattle.trace.proofs.whole.print.Lts as lts
-use Rattle.trace.proofs.ending.end.Reads as end-reads
-use Rattle.trace.proofs.going.rows.Reads as rows-reads
-use Rattle.trace.proofs.whole.more.Reads as more-reads
 
 abbrev Inv-loop : tie.InvT-loop
 Inv-loop width trace cells₀ values₀ out₀ at₀ o₀ going₀ cells values out at o going = Printing trace out₀ going₀ out going at o × (length cells ≡ length cells₀) × (length values ≡ length values₀)
@@ -21,47 +14,36 @@ Inv-loop width trace cells₀ values₀ out₀ at₀ o₀ going₀ cells values 
 abbrev μ-loop : tie.MeasureT-loop
 μ-loop width trace cells₀ values₀ out₀ at₀ o₀ going₀ cells values out at o going = going .left
 
--- src/whole.rt:60:5
 loop-holds : tie.Need-loop-holds Inv-loop μ-loop
 loop-holds c = (print-start _ _ _ _ _ _ (c .before .before .before .before .pre), refl, refl)
 
--- src/whole.rt:60:35
 sub-more : tie.Need-sub-more Inv-loop μ-loop
 sub-more c = c .loop .inv .0 .there
 
--- src/whole.rt:60:11
 more-requires : tie.Need-more-requires Inv-loop μ-loop
 more-requires c κs = tt
 
--- src/whole.rt:61:32
 sub-rows : tie.Need-sub-rows Inv-loop μ-loop
 sub-rows c = c .before .before .loop .inv .0 .there
 
--- src/whole.rt:61:32
 part-rows-start : tie.Need-part-rows-start Inv-loop μ-loop
 part-rows-start c = c .before .before .loop .inv .0 .there
 
--- src/whole.rt:61:32
 part-rows-end : tie.Need-part-rows-end Inv-loop μ-loop
 part-rows-end c = search needs
 
--- src/whole.rt:61:61
 sub-rows-2 : tie.Need-sub-rows-2 Inv-loop μ-loop
 sub-rows-2 c = omega (arith, c .before .before .before .before .before .loop .inv .0 .fits, c .before .before .before .before .before .loop .inv .0 .long)
 
--- src/whole.rt:61:61
 part-rows-start-2 : tie.Need-part-rows-start-2 Inv-loop μ-loop
 part-rows-start-2 c = omega (arith, c .before .before .before .before .before .loop .inv .0 .fits, c .before .before .before .before .before .loop .inv .0 .long)
 
--- src/whole.rt:61:61
 part-rows-end-2 : tie.Need-part-rows-end-2 Inv-loop μ-loop
 part-rows-end-2 c = search needs
 
--- src/whole.rt:61:13
 rows-requires : tie.Need-rows-requires Inv-loop μ-loop
 rows-requires c κs = tt
 
--- src/whole.rt:63:9
 add-at : tie.Need-add-at Inv-loop μ-loop
 add-at c =
     let at = c .before .before .before .before .before .before .before .before .before .before .before .before .before .before .before in
@@ -70,7 +52,6 @@ add-at c =
     let on = turn (from .args .trace .now) (from .args .out .now) _ (from .args .width) (length (at .loop .cells)) (length (at .loop .values)) (printable-still _ _ _ _ _ _ _ _ (from .pre) (at .loop .inv .1) (at .loop .inv .2)) (at .loop .out) _ (at .loop .going) (at .loop .at) (at .loop .o) _ _ (at .loop .inv .0) (c .before .before .before .before .before .before .before .before .before .before .before .before .before .before .more .ensures) (c .before .before .before .before .before .before .before .before .before .before .before .before .before .if1 .taken) (went .0) (went .3) .0 in
     omega (arith, on .there, from .good .1 .1 .0 .0)
 
--- src/whole.rt:64:9
 add-o : tie.Need-add-o Inv-loop μ-loop
 add-o c =
     let at = c .before .before .before .before .before .before .before .before .before .before .before .before .before .before .before .before in
@@ -79,7 +60,6 @@ add-o c =
     let on = turn (from .args .trace .now) (from .args .out .now) _ (from .args .width) (length (at .loop .cells)) (length (at .loop .values)) (printable-still _ _ _ _ _ _ _ _ (from .pre) (at .loop .inv .1) (at .loop .inv .2)) (at .loop .out) _ (at .loop .going) (at .loop .at) (at .loop .o) _ _ (at .loop .inv .0) (c .before .before .before .before .before .before .before .before .before .before .before .before .before .before .before .more .ensures) (c .before .before .before .before .before .before .before .before .before .before .before .before .before .before .if1 .taken) (went .0) (went .3) .0 in
     omega (arith, on .fits, from .good .1 .1 .1 .1 .1 .0 .0)
 
--- src/whole.rt:60:5
 loop-less : tie.Need-loop-less Inv-loop μ-loop
 loop-less c =
     let at = c .before .before .before .before .before .before .before .before .before .before .before .before .before .before .before .before in
@@ -87,7 +67,6 @@ loop-less c =
     let went = c .before .before .before .before .before .before .before .before .before .rows .ensures in
     turn (from .args .trace .now) (from .args .out .now) _ (from .args .width) (length (at .loop .cells)) (length (at .loop .values)) (printable-still _ _ _ _ _ _ _ _ (from .pre) (at .loop .inv .1) (at .loop .inv .2)) (at .loop .out) _ (at .loop .going) (at .loop .at) (at .loop .o) _ _ (at .loop .inv .0) (c .before .before .before .before .before .before .before .before .before .before .before .before .before .before .before .more .ensures) (c .before .before .before .before .before .before .before .before .before .before .before .before .before .before .if1 .taken) (went .0) (went .3) .1
 
--- src/whole.rt:60:5
 loop-again : tie.Need-loop-again Inv-loop μ-loop
 loop-again c =
     let at = c .before .before .before .before .before .before .before .before .before .before .before .before .before .before .before .before in
@@ -95,43 +74,33 @@ loop-again c =
     let went = c .before .before .before .before .before .before .before .before .before .rows .ensures in
     (turn (from .args .trace .now) (from .args .out .now) _ (from .args .width) (length (at .loop .cells)) (length (at .loop .values)) (printable-still _ _ _ _ _ _ _ _ (from .pre) (at .loop .inv .1) (at .loop .inv .2)) (at .loop .out) _ (at .loop .going) (at .loop .at) (at .loop .o) _ _ (at .loop .inv .0) (c .before .before .before .before .before .before .before .before .before .before .before .before .before .before .before .more .ensures) (c .before .before .before .before .before .before .before .before .before .before .before .before .before .before .if1 .taken) (went .0) (went .3) .0, cells-still (at .loop .cells) _ _ _ _ (went .1) ∙ at .loop .inv .1, values-still (at .loop .values) _ _ _ _ (went .2) ∙ at .loop .inv .2)
 
--- src/whole.rt:66:16
 sub-end : tie.Need-sub-end Inv-loop μ-loop
 sub-end c = c .before .before .loop .inv .0 .there
 
--- src/whole.rt:66:16
 part-end-start : tie.Need-part-end-start Inv-loop μ-loop
 part-end-start c = c .before .before .loop .inv .0 .there
 
--- src/whole.rt:66:16
 part-end-end : tie.Need-part-end-end Inv-loop μ-loop
 part-end-end c = search needs
 
--- src/whole.rt:66:30
 sub-end-2 : tie.Need-sub-end-2 Inv-loop μ-loop
 sub-end-2 c = omega (arith, c .before .before .before .loop .inv .0 .fits, c .before .before .before .loop .inv .0 .long)
 
--- src/whole.rt:66:30
 part-end-start-2 : tie.Need-part-end-start-2 Inv-loop μ-loop
 part-end-start-2 c = omega (arith, c .before .before .before .loop .inv .0 .fits, c .before .before .before .loop .inv .0 .long)
 
--- src/whole.rt:66:30
 part-end-end-2 : tie.Need-part-end-end-2 Inv-loop μ-loop
 part-end-end-2 c = search needs
 
--- src/whole.rt:66:5
 end-requires : tie.Need-end-requires Inv-loop μ-loop
 end-requires c κs = tt
 
--- src/whole.rt:46:1
 same-length : tie.Need-same-length Inv-loop μ-loop
 same-length c = c .before .before .before .before .before .before .before .loop .inv .1
 
--- src/whole.rt:46:1
 same-length-2 : tie.Need-same-length-2 Inv-loop μ-loop
 same-length-2 c = c .before .before .before .before .before .before .before .loop .inv .2
 
--- src/whole.rt:46:1
 same-length-3 : tie.Need-same-length-3 Inv-loop μ-loop
 same-length-3 c =
     let at = c .before .before .before .before .before .before .before in
@@ -139,7 +108,6 @@ same-length-3 c =
     ap length (printed (from .args .trace .now) (from .args .out .now) (from .args .course) (from .args .width) _ _ (from .pre) (at .loop .out) _ (at .loop .going) (at .loop .at) (at .loop .o) _ (at .loop .inv .0) (c .before .before .before .before .before .before .more .ensures) (c .before .before .before .before .before .if1 .left) (c .before .before .end .ensures .1))
     ∙ length-sets (from .args .out .now) 0 (courseText (from .args .course) (from .args .trace .now))
 
--- src/whole.rt:46:1
 returns : tie.Need-returns Inv-loop μ-loop
 returns c =
     let at = c .before .before .before .before .before .before .before in

@@ -1,6 +1,5 @@
-use Rattle.trace.specs.WholeLaws.{Printable}
 use native.Mathlib.Omega.{arith}
-use mathlib.Core.Path.{_≡_, refl, ap, _∙_}
+use mathlib.Core.Path.{refl, ap, _∙_}
 use lib.ListN.{length}
 use lib.Seq.{length-sets}
 use denote.Ref.{now}

@@ -1,66 +1,44 @@
 use denote.Ref.{now}
 use Rattle.trace.specs.WholeLaws.{whole-refused, whole-trace, ready-from}
-use mathlib.Core.Path.{_≡_, refl, sym, ap, subst, _∙_}
-use Prim.Native.Nat.{ℕ, _≤_, _<_, _-_, _+_, _*_}
-use native.Mathlib.Omega.{arith}
-use lib.ListN.{length, drop, getD}
-use borrow.Author.Needs.{needs}
-use borrow.Author.Tests.{eq-eqb, ne-eqb, lt-ltb, le-ltb, le-leb, lt-leb}
+use mathlib.Core.Path.{sym, _∙_}
 use borrow.Author.Needs.{needs}
 use Rattle.trace.proofs.whole.replay.Statement.{statement}
 use Rattle.trace.proofs.whole.replay.Tie as tie
-use Rattle.trace.proofs.whole.replay.Reads as reads
-use Rattle.trace.proofs.whole.replay.Lts as lts
-use Rattle.trace.proofs.opening.refused.Reads as refused-reads
-use Rattle.trace.proofs.opening.start.Reads as start-reads
-use Rattle.trace.proofs.whole.replay_refused.Reads as replay-refused-reads
-use Rattle.trace.proofs.whole.replay_trace.Reads as replay-trace-reads
 
--- src/whole.rt:142:9
 start-requires : tie.Need-start-requires
 start-requires c κs = search needs
 
--- src/whole.rt:144:8
 refused-requires : tie.Need-refused-requires
 refused-requires c κs = search needs
 
--- src/whole.rt:145:9
 replay-refused-requires : tie.Need-replay-refused-requires
 replay-refused-requires c κs = sym (c .before .before .refused .ensures) ∙ c .before .if1 .taken
 
--- src/whole.rt:145:9
 same-length : tie.Need-same-length
 same-length c = search needs
 
--- src/whole.rt:145:9
 returns : tie.Need-returns
 returns c =
     let is = whole-refused (now (c .before .before .before .before .before .before .before .before .before .args .bytes)) _ _ (c .before .before .before .before .before .before .start .ensures) (c .before .before .before .before .before .refused .ensures) (c .before .before .before .before .if1 .taken) in
     rw (is .0, is .1) (c .before .before .replay-refused .ensures)
 
--- src/whole.rt:149:26
 sub-replay-trace : tie.Need-sub-replay-trace
 sub-replay-trace c = ready-from (now (c .before .before .before .before .before .before .args .bytes)) _ _ (c .before .before .before .start .ensures) (c .before .before .refused .ensures) (c .before .if1 .left) .there
 
--- src/whole.rt:149:26
 part-replay-trace-start : tie.Need-part-replay-trace-start
 part-replay-trace-start c = ready-from (now (c .before .before .before .before .before .before .args .bytes)) _ _ (c .before .before .before .start .ensures) (c .before .before .refused .ensures) (c .before .if1 .left) .there
 
--- src/whole.rt:149:26
 part-replay-trace-end : tie.Need-part-replay-trace-end
 part-replay-trace-end c = search needs
 
--- src/whole.rt:149:5
 replay-trace-requires : tie.Need-replay-trace-requires
 replay-trace-requires c κs =
     let good = ready-from (now (c .before .before .before .before .before .before .before .before .args .bytes)) _ _ (c .before .before .before .before .before .start .ensures) (c .before .before .before .before .refused .ensures) (c .before .before .before .if1 .left) in
     (good .lanes, good .few)
 
--- src/whole.rt:138:1
 same-length-2 : tie.Need-same-length-2
 same-length-2 c = search needs
 
--- src/whole.rt:138:1
 returns-2 : tie.Need-returns-2
 returns-2 c =
     let is = whole-trace (now (c .before .before .before .before .before .before .before .before .before .before .before .args .bytes)) _ _ (c .before .before .before .before .before .before .before .before .start .ensures) (c .before .before .before .before .before .before .before .refused .ensures) (c .before .before .before .before .before .before .if1 .left) in

@@ -1,68 +1,45 @@
 use denote.Ref.{now}
 use Rattle.trace.specs.RowsLaws.{laned-parts}
 use Rattle.trace.specs.WholeLaws.{width-is, width-some, used-fits, reason-is, need-is, need-fits, replayed-short, replayed-whole}
-use mathlib.Core.Path.{_≡_, refl, sym, ap, subst, _∙_}
-use Prim.Native.Nat.{ℕ, _≤_, _<_, _-_, _+_, _*_}
+use mathlib.Core.Path.{refl, sym}
 use native.Mathlib.Omega.{arith}
-use lib.ListN.{length, drop, getD}
-use borrow.Author.Needs.{needs}
-use borrow.Author.Tests.{eq-eqb, ne-eqb, lt-ltb, le-ltb, le-leb, lt-leb}
 use borrow.Author.Needs.{needs}
 use Rattle.trace.proofs.whole.replay_trace.Statement.{statement}
 use Rattle.trace.proofs.whole.replay_trace.Tie as tie
-use Rattle.trace.proofs.whole.replay_trace.Reads as reads
-use Rattle.trace.proofs.whole.replay_trace.Lts as lts
-use Rattle.npy.proofs.reader.Kind.width.Reads as width-reads
-use Rattle.trace.proofs.going.least.Reads as least-reads
-use Rattle.trace.proofs.whole.print_all.Reads as print-all-reads
-use Rattle.trace.proofs.whole.reason.Reads as reason-reads
-use Rattle.trace.proofs.whole.reason_length.Reads as reason-length-reads
 
--- src/whole.rt:102:17
 mul-width : tie.Need-mul-width
 mul-width c = omega (arith, laned-parts _ _ (c .before .before .pre .0) .1)
 
--- src/whole.rt:102:25
 width-requires : tie.Need-width-requires
 width-requires c κs = search needs
 
--- src/whole.rt:102:17
 mul-width-2 : tie.Need-mul-width-2
 mul-width-2 c = omega (arith, width-some (c .before .before .before .args .course) (now (c .before .before .before .args .trace)) (c .width .result) _ (c .before .before .before .pre .0) (c .width .ensures) refl .1)
 
--- src/whole.rt:103:25
 div-least : tie.Need-div-least
 div-least c = width-some (c .before .before .before .args .course) (now (c .before .before .before .args .trace)) (c .width .result) _ (c .before .before .before .pre .0) (c .width .ensures) refl .0
 
--- src/whole.rt:103:9
 least-requires : tie.Need-least-requires
 least-requires c κs = search needs
 
--- src/whole.rt:104:35
 mul-reason : tie.Need-mul-reason
 mul-reason c = omega (arith, used-fits (c .before .before .before .before .args .course) (now (c .before .before .before .before .args .trace)) _ _ (c .before .before .before .before .pre .0) (c .before .width .ensures) (c .least .ensures))
 
--- src/whole.rt:104:9
 reason-requires : tie.Need-reason-requires
 reason-requires c κs = search needs
 
--- src/whole.rt:105:21
 mul-need : tie.Need-mul-need
 mul-need c = omega (arith, laned-parts _ _ (c .before .before .before .before .before .pre .0) .1)
 
--- src/whole.rt:105:16
 mul-need-2 : tie.Need-mul-need-2
 mul-need-2 c = omega (arith, need-fits (c .before .before .before .before .before .args .course) (now (c .before .before .before .before .before .args .trace)) _ _ (c .before .before .before .before .before .pre .0) (c .before .before .width .ensures) (c .before .least .ensures) (c .before .before .before .before .before .pre .1))
 
--- src/whole.rt:105:30
 reason-length-requires : tie.Need-reason-length-requires
 reason-length-requires c κs = search needs
 
--- src/whole.rt:105:16
 add-need : tie.Need-add-need
 add-need c = omega (arith, need-fits (c .before .before .before .before .before .before .args .course) (now (c .before .before .before .before .before .before .args .trace)) _ _ (c .before .before .before .before .before .before .pre .0) (c .before .before .before .width .ensures) (c .before .before .least .ensures) (c .before .before .before .before .before .before .pre .1), c .reason-length .ensures .1)
 
--- src/whole.rt:107:9
 returns : tie.Need-returns
 returns c =
     let from = c .before .before .before .before .before .before .before in
@@ -71,7 +48,6 @@ returns c =
     let why = reason-is (from .args .course) (now (from .args .trace)) _ _ (from .pre .0) w n _ (c .before .before .reason .ensures) in
     replayed-short _ _ _ _ _ why (need-is (from .args .course) (now (from .args .trace)) _ _ (from .pre .0) w n _ _ why (c .before .reason-length .ensures .0)) (c .if1 .taken)
 
--- src/whole.rt:113:5
 print-all-requires : tie.Need-print-all-requires
 print-all-requires c κs =
     let from = c .before .before .before .before .before .before .before .before in
@@ -81,11 +57,9 @@ print-all-requires c κs =
     let need = need-is (from .args .course) (now (from .args .trace)) _ _ (from .pre .0) w n _ _ why (c .before .before .reason-length .ensures .0) in
     (from .pre .0, width-is (from .args .course) (now (from .args .trace)) _ _ (from .pre .0) w n, rw (sym need) (c .before .if1 .left))
 
--- src/whole.rt:94:1
 same-length : tie.Need-same-length
 same-length c = search needs
 
--- src/whole.rt:94:1
 returns-2 : tie.Need-returns-2
 returns-2 c =
     let from = c .before .before .before .before .before .before .before .before .before .before .before in
