@@ -1,5 +1,5 @@
 //! The root of a crate over the Rust sources, which lie beside this file (by links) and are used unchanged.
-//! What is added to them reads and sets their private fields. `airframe` is not here: it needs nalgebra.
+//! What is added to them reads and sets their private fields.
 
 /// Stands in for the sources' own macro, whose text is not among them: a constant default and `Default` by it.
 #[macro_export]
@@ -28,6 +28,7 @@ pub mod fields;
 #[path = "opened/refusals.rs"]
 pub mod refusals;
 
+pub mod airframe;
 pub mod filters {
     include!("filters/mod.rs");
     include!("opened/filters.rs");

@@ -40,6 +40,11 @@ pub fn motor(min: f32, max: f32) -> u32 {
     unless(min <= max, 7)
 }
 
+/// Of a row of a frame's columns, the sum of its squares.
+pub fn row_sum(sum: f32) -> u32 {
+    unless(sum > 0.0 && sum < f32::INFINITY, 17)
+}
+
 pub fn window(length: u32, head: u32) -> u32 {
     unless((1..=16).contains(&length) && head <= length, 18)
 }
