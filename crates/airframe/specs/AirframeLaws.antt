@@ -9,6 +9,8 @@ use lib.ListN.{length, getD, take, drop, set, replicate, length-append, length-d
 use lib.Seq.{drop-cons, sets, sets-eq, take-at, length-take-le, take-all, take-suc-set, getD-take, getD-drop}
 use lib.IntN.{ℤ, pos}
 use lib.Ieee.{Float, nan, inf, fin, lt, ofBits}
+use lib.Ieee.Positive.{positive}
+use borrow.Author.Tests.{lt-ltb}
 use Rattle.float.specs.FloatLaws.{above-zero, zero-not-above}
 use Rattle.float.specs.F32 as F
 use Rattle.refusal.specs.Cases.{when-true, when-false}
@@ -69,12 +71,6 @@ unfolding matrixOf
 length-matrix ms = matrix-length ms (goodSums (sumsOf ms))
 
 -- ---- a sum is good exactly where it is a finite number above 0
-abbrev pub aboveZero : Float → Bool
-aboveZero nan = false
-aboveZero (inf s) = false
-aboveZero (fin true m e) = false
-aboveZero (fin false zero e) = false
-aboveZero (fin false (suc m) e) = true
 
 -- each number is below +infinity
 below-infinity : (m : ℕ) (e : ℤ) → lt (fin false m e) (inf false) ≡ true
@@ -94,13 +90,13 @@ below : (m : ℕ) (e : ℤ) → goodSum (fin true m e) ≡ false
 unfolding goodSum lt ofBits
 below m e = refl
 
-pub good-sum : (s : Float) → goodSum s ≡ aboveZero s
+pub good-sum : (s : Float) → goodSum s ≡ positive s
 unfolding goodSum
 good-sum nan = not-a-number
 good-sum (inf s) = infinite s
 good-sum (fin true m e) = below m e
 good-sum (fin false zero e) = rw (zero-not-above e)
-good-sum (fin false (suc m) e) = rw (above-zero m e, below-infinity (suc m) e)
+good-sum (fin false (suc m) e) = rw (above-zero m e, below-infinity (suc m) e, lt-ltb 0 (suc m) (omega arith))
 
 -- ---- the answer where every row's sum is good, and where one is not
 module _ (ms : List Motor) where

@@ -38,11 +38,11 @@ unfoldable pub partsRefusal : Range → Range → Range → Tau → Refusal
 partsRefusal wrapping outputLimit antiWindup tau = first (rangeRefusal wrapping) (first (rangeRefusal outputLimit) (first (rangeRefusal antiWindup) (tauRefusal tau)))
 
 -- the first refusal of a controller's stored parts, and of a configuration's
-unfoldable pub badPid : Pid → Refusal
-badPid s = partsRefusal (s .wrapping) (s .«output_limit») (s .«anti_windup») (storedTau (s .«lp_filter»))
+unfoldable pub pidRefusal : Pid → Refusal
+pidRefusal s = partsRefusal (s .wrapping) (s .«output_limit») (s .«anti_windup») (storedTau (s .«lp_filter»))
 
-unfoldable pub badConfig : PidConfig → Refusal
-badConfig c = partsRefusal (c .wrapping) (c .«output_limit») (c .«anti_windup») (c .«lp_filter»)
+unfoldable pub configRefusal : PidConfig → Refusal
+configRefusal c = partsRefusal (c .wrapping) (c .«output_limit») (c .«anti_windup») (c .«lp_filter»)
 
 -- ---- states
 
@@ -117,42 +117,42 @@ unfoldable pub kept : Refusal → Pid → Pid → PidMade
 kept why s next = cond (passes why) (made Refusal.None next) (made why s)
 
 unfoldable pub withConfigPid : PidConfig → Float → PidMade
-withConfigPid c ts = kept (badConfig c) zeroPid (configured c ts)
+withConfigPid c ts = kept (configRefusal c) zeroPid (configured c ts)
 
 unfoldable pub setWrappingPid : Pid → Float → Float → PidMade
-setWrappingPid s min max = kept (first (badPid s) (rangeRefusal (Range.On min max))) s (withParts s (Range.On min max) (s .«output_limit») (s .«anti_windup») (s .«lp_filter»))
+setWrappingPid s min max = kept (first (pidRefusal s) (rangeRefusal (Range.On min max))) s (withParts s (Range.On min max) (s .«output_limit») (s .«anti_windup») (s .«lp_filter»))
 
 unfoldable pub setOutputLimitPid : Pid → Float → Float → PidMade
-setOutputLimitPid s min max = kept (first (badPid s) (rangeRefusal (Range.On min max))) s (withParts s (s .wrapping) (Range.On min max) (s .«anti_windup») (s .«lp_filter»))
+setOutputLimitPid s min max = kept (first (pidRefusal s) (rangeRefusal (Range.On min max))) s (withParts s (s .wrapping) (Range.On min max) (s .«anti_windup») (s .«lp_filter»))
 
 unfoldable pub setAntiWindupPid : Pid → Float → Float → PidMade
-setAntiWindupPid s min max = kept (first (badPid s) (rangeRefusal (Range.On min max))) s (withParts s (s .wrapping) (s .«output_limit») (Range.On min max) (s .«lp_filter»))
+setAntiWindupPid s min max = kept (first (pidRefusal s) (rangeRefusal (Range.On min max))) s (withParts s (s .wrapping) (s .«output_limit») (Range.On min max) (s .«lp_filter»))
 
 unfoldable pub setLpFilterPid : Pid → Float → PidMade
-setLpFilterPid s tau = kept (first (badPid s) (tauRefusal (Tau.On tau))) s (withParts s (s .wrapping) (s .«output_limit») (s .«anti_windup») (newLpFilter (Tau.On tau) (s .ts)))
+setLpFilterPid s tau = kept (first (pidRefusal s) (tauRefusal (Tau.On tau))) s (withParts s (s .wrapping) (s .«output_limit») (s .«anti_windup») (newLpFilter (Tau.On tau) (s .ts)))
 
 -- `set_gains` ignores `ideal`.
 unfoldable pub setGainsPid : Pid → Float → Float → Float → PidMade
-setGainsPid s kp ki kd = kept (badPid s) s (withGains s kp ki kd)
+setGainsPid s kp ki kd = kept (pidRefusal s) s (withGains s kp ki kd)
 
 unfoldable pub resetIntegralToPid : Pid → Float → PidMade
-resetIntegralToPid s integral = kept (badPid s) s (withIntegral s (s .«integral_en») integral)
+resetIntegralToPid s integral = kept (pidRefusal s) s (withIntegral s (s .«integral_en») integral)
 
 unfoldable pub resetIntegralPid : Pid → PidMade
 resetIntegralPid s = resetIntegralToPid s F.zero
 
 unfoldable pub enableIntegralPid : Pid → Bool → PidMade
-enableIntegralPid s on = kept (badPid s) s (withIntegral s on (s .integral))
+enableIntegralPid s on = kept (pidRefusal s) s (withIntegral s on (s .integral))
 
 unfoldable pub enableResetIntegralPid : Pid → Bool → PidMade
-enableResetIntegralPid s on = kept (badPid s) s (withIntegral s on F.zero)
+enableResetIntegralPid s on = kept (pidRefusal s) s (withIntegral s on F.zero)
 
 -- the step after the wrapping, with the wrapping's count; refused, it answers with that count too
 unfoldable pub afterWrap : Pid → Wrapped → Float → PidUpdated
 afterWrap s w ts = cond (passes (w .refusal)) (updated Refusal.None (stepPid s (w .value) ts .y) (w .steps) (stepPid s (w .value) ts .pid)) (updated (w .refusal) F.zero (w .steps) s)
 
 unfoldable pub updateTsPid : Pid → Float → Float → PidUpdated
-updateTsPid s error ts = cond (passes (badPid s)) (afterWrap s (wrapError (s .wrapping) error) ts) (updated (badPid s) F.zero 0 s)
+updateTsPid s error ts = cond (passes (pidRefusal s)) (afterWrap s (wrapError (s .wrapping) error) ts) (updated (pidRefusal s) F.zero 0 s)
 
 unfoldable pub updatePid : Pid → Float → PidUpdated
 updatePid s error = updateTsPid s error (s .ts)

@@ -22,7 +22,7 @@ use Rattle.angle_pid.specs.declared.pid.PidConfig.{PidConfig}
 use Rattle.angle_pid.specs.declared.pid.PidMade.{PidMade}
 use Rattle.angle_pid.specs.Range.{rangeRefusal, wrapError, admits, limited}
 use Rattle.angle_pid.specs.LpFilter.{newLpFilter, storedTau, stepLpFilter}
-use Rattle.angle_pid.specs.Pid.{passes, first, partsRefusal, badPid, badConfig, zeroPid, withParts, configured, movedIntegral, proportional, derivative, grown, nextIntegral, stepPid, kept, withConfigPid, setWrappingPid, setOutputLimitPid, setAntiWindupPid, setLpFilterPid, setGainsPid, resetIntegralPid, resetIntegralToPid, enableIntegralPid, enableResetIntegralPid, updated, afterWrap, updateTsPid}
+use Rattle.angle_pid.specs.Pid.{passes, first, partsRefusal, pidRefusal, configRefusal, zeroPid, withParts, configured, movedIntegral, proportional, derivative, grown, nextIntegral, stepPid, kept, withConfigPid, setWrappingPid, setOutputLimitPid, setAntiWindupPid, setLpFilterPid, setGainsPid, resetIntegralPid, resetIntegralToPid, enableIntegralPid, enableResetIntegralPid, updated, afterWrap, updateTsPid}
 
 -- ---- a refused call leaves the state, and a refused constructor gives the all-zero one
 
@@ -59,19 +59,19 @@ module _ (s : Pid) (w : Wrapped) (ts : Float) where
   after-settled h = simp h
 
 module _ (s : Pid) (error ts : Float) where
-  pub update-bad : passes (badPid s) ≡ false → updateTsPid s error ts ≡ updated (badPid s) F.zero 0 s
+  pub update-bad : passes (pidRefusal s) ≡ false → updateTsPid s error ts ≡ updated (pidRefusal s) F.zero 0 s
   unfolding updateTsPid
   update-bad h = simp h
 
-  pub update-good : passes (badPid s) ≡ true → updateTsPid s error ts ≡ afterWrap s (wrapError (s .wrapping) error) ts
+  pub update-good : passes (pidRefusal s) ≡ true → updateTsPid s error ts ≡ afterWrap s (wrapError (s .wrapping) error) ts
   unfolding updateTsPid
   update-good h = simp h
 
   -- refused, y is +0 and the state is left
   pub update-leaves : (updateTsPid s error ts .refusal ≡ Refusal.None → ⊥) → (updateTsPid s error ts .y ≡ F.zero) × (updateTsPid s error ts .pid ≡ s)
-  update-leaves h = go (passes (badPid s)) refl (passes (wrapError (s .wrapping) error .refusal)) refl
+  update-leaves h = go (passes (pidRefusal s)) refl (passes (wrapError (s .wrapping) error .refusal)) refl
     where
-      go : (b : Bool) → passes (badPid s) ≡ b → (d : Bool) → passes (wrapError (s .wrapping) error .refusal) ≡ d → (updateTsPid s error ts .y ≡ F.zero) × (updateTsPid s error ts .pid ≡ s)
+      go : (b : Bool) → passes (pidRefusal s) ≡ b → (d : Bool) → passes (wrapError (s .wrapping) error .refusal) ≡ d → (updateTsPid s error ts .y ≡ F.zero) × (updateTsPid s error ts .pid ≡ s)
       go false e d k = simp (update-bad e) (refl, refl)
       go true e false k = simp (update-good e, after-refused s (wrapError (s .wrapping) error) ts k) (refl, refl)
       go true e true k = absurd (h (simp (update-good e, after-settled s (wrapError (s .wrapping) error) ts k)))
@@ -79,15 +79,15 @@ module _ (s : Pid) (error ts : Float) where
 -- ---- the steps are those of the rule, and the step is on the error that the rule leads to
 
 -- where no part is refused, a wrapping range that is on has min < max
-range-good : (s : Pid) (min max : Float) → badPid s ≡ Refusal.None → s .wrapping ≡ Range.On min max → lt min max ≡ true
-unfolding badPid partsRefusal first passes rangeRefusal
+range-good : (s : Pid) (min max : Float) → pidRefusal s ≡ Refusal.None → s .wrapping ≡ Range.On min max → lt min max ≡ true
+unfolding pidRefusal partsRefusal first passes rangeRefusal
 range-good s min max good on = go (lt min max) refl
   where
     go : (b : Bool) → lt min max ≡ b → b ≡ true
     go true e = refl
-    go false e = let bad : badPid s ≡ Refusal.Range = simp (on, e) in cc
+    go false e = let bad : pidRefusal s ≡ Refusal.Range = simp (on, e) in cc
 
-module _ (s : Pid) (error ts : Float) (good : badPid s ≡ Refusal.None) where
+module _ (s : Pid) (error ts : Float) (good : pidRefusal s ≡ Refusal.None) where
   pub update-unwrapped : s .wrapping ≡ Range.Off → updateTsPid s error ts ≡ updated Refusal.None (stepPid s error ts .y) 0 (stepPid s error ts .pid)
   unfolding updateTsPid afterWrap wrapError passes
   update-unwrapped off = simp (good, off)
@@ -140,8 +140,8 @@ unfolding storedTau newLpFilter newLowpass lowpassOf
 new-tau Tau.Off ts = refl
 new-tau (Tau.On tau) ts = refl
 
-pub config-parts : (c : PidConfig) (ts : Float) → badPid (configured c ts) ≡ badConfig c
-unfolding badPid badConfig configured withParts
+pub config-parts : (c : PidConfig) (ts : Float) → pidRefusal (configured c ts) ≡ configRefusal c
+unfolding pidRefusal configRefusal configured withParts
 config-parts c ts = simp new-tau
 
 step-tau : (f : LpFilter) (x : Float) → storedTau (stepLpFilter f x .filter) ≡ storedTau f
@@ -149,6 +149,6 @@ unfolding storedTau stepLpFilter stepLowpass
 step-tau LpFilter.Off x = refl
 step-tau (LpFilter.On f) x = refl
 
-pub step-parts : (s : Pid) (error ts : Float) → badPid (stepPid s error ts .pid) ≡ badPid s
-unfolding badPid stepPid derivative
+pub step-parts : (s : Pid) (error ts : Float) → pidRefusal (stepPid s error ts .pid) ≡ pidRefusal s
+unfolding pidRefusal stepPid derivative
 step-parts s error ts = simp step-tau

@@ -1,4 +1,4 @@
-// The low pass on the derivative, which may be off, and the time constant that asks for one.
+// The Rust's Option of a `Lowpass` on the derivative, and the configuration's Option of its time constant.
 ghost use mathlib.Core.Path.{_≡_};
 ghost use Rattle.angle_pid.specs.LpFilter.{tauRefusal, newLpFilter, storedTau, stepLpFilter};
 use filters::Lowpass;

@@ -1,6 +1,6 @@
 // The controller. Every call on it, when it was built by hand too, checks its ranges and its low pass's tau first.
 ghost use mathlib.Core.Path.{_≡_};
-ghost use Rattle.angle_pid.specs.Pid.{first, partsRefusal, badPid, idealGain, withParts, zeroPid, grown, stepPid, kept, newPid, withConfigPid, setWrappingPid, setOutputLimitPid, setAntiWindupPid, setLpFilterPid, setGainsPid, resetIntegralPid, resetIntegralToPid, enableIntegralPid, enableResetIntegralPid, updateTsPid, updatePid};
+ghost use Rattle.angle_pid.specs.Pid.{first, partsRefusal, pidRefusal, idealGain, withParts, zeroPid, grown, stepPid, kept, newPid, withConfigPid, setWrappingPid, setOutputLimitPid, setAntiWindupPid, setLpFilterPid, setGainsPid, resetIntegralPid, resetIntegralToPid, enableIntegralPid, enableResetIntegralPid, updateTsPid, updatePid};
 use crate::lp_filter::LpFilter;
 use crate::lp_filter::Tau;
 use crate::range::Range;
@@ -46,9 +46,9 @@ pub struct PidUpdated {
 }
 
 // What one step of the controller gives, whose parts are good and whose error is wrapped.
-pub struct PidStepped {
-    pub y: f32,
-    pub pid: Pid,
+struct PidStepped {
+    y: f32,
+    pid: Pid,
 }
 
 // The first of two refusals.
@@ -159,7 +159,7 @@ impl Pid {
     }
 
     fn refusal(self) -> Refusal
-        ensures { λ r. ⌜ r ≡ badPid self ⌝ }
+        ensures { λ r. ⌜ r ≡ pidRefusal self ⌝ }
     {
         let wrapping = self.wrapping;
         let output_limit = self.output_limit;

@@ -1,4 +1,4 @@
-// The three ranges of the controller, each of which may be off: wrapping, anti-windup and output limit.
+// The Rust's Options of `Wrapping`, `OutputLimit` and `AntiWindup`: one kind of range, which may be off.
 ghost use mathlib.Core.Path.{_≡_};
 ghost use Rattle.angle_pid.specs.Range.{rangeRefusal, wrapError, shifted, admits, limited};
 use func::Wrapped;

@@ -19,7 +19,7 @@ use Rattle.rates.specs.Rates.{actualDefault, applyActual}
 use Rattle.airframe.specs.Airframe as A
 use Rattle.airframe.specs.Airframe.{quadX}
 use Rattle.linear_lut.specs.LinearLut.{looked, among, within, holds, segment}
-use Rattle.motor_lin.specs.MotorLin.{made, commandToForce, forceToCommand, command, thrust, inForce, inCommand, badMotor, motorAt, thrustOf, commandOf}
+use Rattle.motor_lin.specs.MotorLin.{newMotorLin, commandToForce, forceToCommand, command, thrust, inForce, inCommand, badMotor, motorAt, thrustOf, commandOf}
 
 abbrev b : ℕ → Float
 b n = ofBits binary32 n
@@ -44,8 +44,8 @@ pub rows
     × ((px py x : Float) → looked (px ∷ py ∷ []) x ≡ record { refusal = Refusal.Points; y = b 0 })
     × (windowFed (newMovingAverage 2 .filter) (b 0x4000_0000 ∷ b 0x4080_0000 ∷ b 0x40c0_0000 ∷ b 0x4100_0000 ∷ []) ≡ b 0x3f80_0000 ∷ b 0x4040_0000 ∷ b 0x40a0_0000 ∷ b 0x40c0_0000 ∷ [])
     × (slewFed (newSlewRate (b 0x3f80_0000) (b 0x3f00_0000) .filter) (b 0x4000_0000 ∷ nan ∷ []) ≡ b 0x3f00_0000 ∷ b 0 ∷ [])
-    × (commandToForce (made (b 0x4080_0000) (b 0) (command (b 0)) (command (b 0x3f80_0000)) .motor) (command (b 0x3f00_0000)) ≡ record { refusal = Refusal.None; force = thrust (b 0x3f80_0000) })
-    × (forceToCommand (made (b 0x4080_0000) (b 0) (command (b 0)) (command (b 0x3f80_0000)) .motor) (thrust (b 0x3f80_0000)) ≡ record { refusal = Refusal.None; command = command (b 0x3f00_0000) })
+    × (commandToForce (newMotorLin (b 0x4080_0000) (b 0) (command (b 0)) (command (b 0x3f80_0000)) .motor) (command (b 0x3f00_0000)) ≡ record { refusal = Refusal.None; force = thrust (b 0x3f80_0000) })
+    × (forceToCommand (newMotorLin (b 0x4080_0000) (b 0) (command (b 0)) (command (b 0x3f80_0000)) .motor) (thrust (b 0x3f80_0000)) ≡ record { refusal = Refusal.None; command = command (b 0x3f00_0000) })
     × (root (b 0x0000_0002) ≡ b 0x1a80_0000)
     × (root (b 0x4000_0000) ≡ b 0x3fb5_04f3)
     × (quadX (b 0x4000_0000) (b 0x4080_0000) (b 0x3f00_0000) false .refusal ≡ Refusal.None)
@@ -55,6 +55,6 @@ pub rows
 unfolding ofBits Ieee.toBits Ieee.add Ieee.sub Ieee.mul Ieee.div Ieee.neg Ieee.lt Ieee.le Ieee.isNan Ieee.ofInt
     absF fifthF clampF maxF minF negative wrapped rise fall actualDefault applyActual looked among within holds segment
     newMovingAverage newWithValueMovingAverage stepMovingAverage badLength badWindow windowOf windowStore windowMean newSlewRate stepSlewRate badLimit slewChange slewStep
-    made commandToForce forceToCommand inForce inCommand badMotor motorAt thrustOf commandOf root rootBits seek reaches fourfold middle scaled ofParts
+    newMotorLin commandToForce forceToCommand inForce inCommand badMotor motorAt thrustOf commandOf root rootBits seek reaches fourfold middle scaled ofParts
     A.column A.addSquares A.sums A.sumsOf A.goodSum A.goodSums A.divided A.four A.entries A.zeros A.refusalOf A.matrixOf A.motorsOf A.flat A.table A.signsAt A.rowsFrom A.signed A.motorAt A.frame A.dirOf A.quadMotors A.mixed A.quad A.quadX A.quadP
 rows = (refl, refl, refl, refl, refl, refl, refl, λ px py x. refl, refl, refl, refl, refl, refl, refl, refl, refl, refl, refl)

@@ -1,4 +1,4 @@
-// A first order low pass. It accepts every number.
+// A first order low pass. It accepts every number. In memory y stands first, apart from the coefficients, for speed (docs/DECISIONS.md).
 ghost use mathlib.Core.Path.{_≡_};
 ghost use Rattle.filters.specs.Lowpass.{lowpassOf, newLowpass, setDtLowpass, setTauLowpass, stepLowpass};
 

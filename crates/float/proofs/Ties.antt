@@ -1,11 +1,11 @@
 -- The tests that the code makes, tied to the cases of the definitions. Assumes nothing.
 use mathlib.Core.Path.{_≡_, refl, sym, ap, _∙_}
 use mathlib.Core.Bool.{Bool, true, false, cond, not, true≢false}
-use Prim.Native.Nat.{ℕ, zero, suc, _*_, _%_, _≤_, _<_}
+use Prim.Native.Nat.{ℕ, zero, suc, _*_, _%_, _<_}
 use native.Mathlib.Omega.{arith}
-use borrow.Author.Tests.{ltb-true, lt-ltb, le-ltb}
+use borrow.Author.Tests.{ltb-true, lt-ltb}
 use lib.Dec.{T}
-use lib.Ieee.{Float, nan, inf, fin, binary32, up, down, ne, eq, lt, neg, isNan, fits, ofBits, toBits, nanBits}
+use lib.Ieee.{Float, nan, inf, fin, binary32, up, down, ne, eq, lt, neg, isNan, fits, ofBits, toBits}
 use lib.Ieee.Bits.{nanBits-is, nanBits-above}
 use Rattle.float.specs.F32 as F
 use Rattle.float.specs.F32.{_/f_}
@@ -81,9 +81,6 @@ abs-turns x h = go (lt x F.zero) refl
 
 pub nan-pattern : (n : ℕ) → 0x7f80_0000 < n % 0x8000_0000 → F.zero /f F.zero ≡ ofBits binary32 n
 nan-pattern n h = sym nan-is ∙ sym (is-nan (ofBits binary32 n) (sym (nanBits-is binary32 n) ∙ nanBits-above binary32 n ∙ lt-ltb _ _ h))
-
-pub no-nan-pattern : (n : ℕ) → n % 0x8000_0000 ≤ 0x7f80_0000 → T (not (nanBits binary32 n))
-no-nan-pattern n h = let e : nanBits binary32 n ≡ false = nanBits-above binary32 n ∙ le-ltb _ _ h in rw e tt
 
 pub nan-bits : (x : Float) → ne x x ≡ true → 0x7fc0_0000 ≡ toBits binary32 x
 unfolding toBits

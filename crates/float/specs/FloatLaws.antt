@@ -1,16 +1,17 @@
 -- Laws of the definitions and of binary32's tests that other crates cite. Assumes nothing.
 use mathlib.Core.Path.{_≡_, refl, sym, ap, _∙_, subst}
-use mathlib.Core.Bool.{Bool, true, false, cond, not, _&&_, _||_, true≢false}
+use mathlib.Core.Bool.{Bool, true, false, cond, not, _&&_, _||_, and-true, true≢false}
 use mathlib.Core.Logic.{_⊎_, inl, inr}
-use Prim.Native.Nat.{ℕ, zero, suc, _+_, _*_, _<_, _≤_, _^_}
+use Prim.Native.Nat.{ℕ, zero, suc, _+_, _*_, _<_, _≤_, _^_, _%_}
 use native.Mathlib.Omega.{arith}
 use native.Mathlib.Nat.{mul-pos, zero-lt-suc}
 use borrow.Author.Tests.{ltb-false, lt-ltb, le-ltb, eqb-true, eq-eqb}
 use lib.Dec.{T, ltb, eqb, eqb→eq}
 use lib.Pow.{pow-pos}
 use lib.IntN.{ℤ, pos, negsuc}
-use lib.Ieee.{Float, nan, inf, fin, binary32, up, down, below, level, ne, eq, lt, le, div, isNan, fits, ofBits}
+use lib.Ieee.{Float, nan, inf, fin, binary32, up, down, below, level, ne, eq, lt, le, div, isNan, fits, ofBits, nanBits}
 use lib.Ieee.Fits.{up-pos}
+use lib.Ieee.Bits.{nanBits-above}
 use lib.Ieee.Compare.{differs-from-itself}
 use Rattle.float.specs.F32 as F
 use Rattle.float.specs.F32.{_/f_}
@@ -72,6 +73,11 @@ nan-lt a b h = not-both (lt a b) (isNan a) (lt-left a b) h
 pub lt-nan : (a b : Float) → isNan b ≡ true → lt a b ≡ false
 lt-nan a b h = not-both (lt a b) (isNan b) (lt-right a b) h
 
+-- ---- patterns
+
+pub no-nan-pattern : (n : ℕ) → n % 0x8000_0000 ≤ 0x7f80_0000 → T (not (nanBits binary32 n))
+no-nan-pattern n h = let e : nanBits binary32 n ≡ false = nanBits-above binary32 n ∙ le-ltb _ _ h in rw e tt
+
 -- ---- zeros and signs
 
 -- a size m * up e is 0 only where m is
@@ -79,9 +85,13 @@ size-zero : (m : ℕ) (e : ℤ) → m * up e ≡ 0 → m ≡ 0
 size-zero zero e h = refl
 size-zero (suc m) e h = let z : 0 < suc m * up e = mul-pos (zero-lt-suc m) (up-pos e) in absurd (omega arith)
 
-and-left : (p q : Bool) → p && q ≡ true → p ≡ true
+pub and-left : (p q : Bool) → p && q ≡ true → p ≡ true
 and-left true q h = refl
 and-left false q h = h
+
+pub and-right : (p q : Bool) → p && q ≡ true → q ≡ true
+and-right true q h = h
+and-right false q h = absurd (true≢false (sym h))
 
 -- what equals zero is a zero
 pub eq-zero : (s : Bool) (m : ℕ) (e : ℤ) → eq (fin s m e) F.zero ≡ true → m ≡ 0
@@ -150,9 +160,7 @@ or-left : (p q : Bool) → p ≡ true → p || q ≡ true
 or-left p q h = simp h
 
 or-and : (p q : Bool) → p || q ≡ true → p || (q && true) ≡ true
-or-and true q h = refl
-or-and false true h = refl
-or-and false false h = h
+or-and p q h = rw (and-true q) h
 
 le-or : (a b : ℕ) (p : Bool) → ltb a b ≡ p → a ≤ b → ltb a b || eqb a b ≡ true
 le-or a b true e h = simp e

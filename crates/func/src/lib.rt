@@ -36,8 +36,8 @@ fn above(closed: bool, max: f32, n: f32) -> bool
     if closed { n > max } else { n >= max }
 }
 
-// Wraps num into min ≤ num < max, or min ≤ num ≤ max where the range is closed. The Rust's loops have no cap: at an
-// infinity, or where a step changes nothing, they never end.
+// The one wrapping rule, for `wrap` (at max too) and for the angle controller (only past max, `closed`): the width is added while num is
+// below min, then subtracted while it is above. The Rust's loops have no cap: at an infinity, or where a step changes nothing, they never end.
 pub fn wrap_by(num: f32, min: f32, max: f32, closed: bool) -> Wrapped
     ensures { λ r. ⌜ r ≡ wrapBy (above closed) num min max ⌝ }
 {

@@ -1,12 +1,11 @@
 -- The search, segment by segment, and the cases of a lookup. Assumes nothing.
-use mathlib.Core.Path.{_≡_, refl, ap}
-use mathlib.Core.Bool.{Bool, true, false, _||_}
+use mathlib.Core.Path.{_≡_, ap}
+use mathlib.Core.Bool.{or-true, true, false}
 use mathlib.Core.List.{List}
 use Prim.Native.Nat.{ℕ, zero, suc, _+_, _-_, _*_, _/_, _%_, _<_}
 use native.Mathlib.Numerals.{add-one}
 use native.Mathlib.Omega.{arith}
 use borrow.Author.Tests.{eq-eqb, ne-eqb}
-use lib.Dec.{eqb}
 use lib.ListN.{length, getD}
 use lib.Ieee.{Float, nan, le}
 use Rattle.float.specs.F32 as F
@@ -40,13 +39,9 @@ module _ (points : List Float) (x : Float) where
   unfolding looked
   odd-refused e = simp (eq-eqb _ _ e)
 
-  or-right : (p q : Bool) → q ≡ true → p || q ≡ true
-  or-right true q h = refl
-  or-right false q h = h
-
   pub one-refused : length points ≡ 2 → record { refusal = Refusal.Points; y = F.zero } ≡ looked points x
   unfolding looked
-  one-refused e = simp (or-right (eqb (length points % 2) 1) _ (eq-eqb _ _ e))
+  one-refused e = simp (eq-eqb _ _ e, or-true)
 
   pub none-zero : (length points % 2 ≡ 1 → ⊥) → (length points ≡ 2 → ⊥) → length points ≡ 0 → record { refusal = Refusal.None; y = F.zero } ≡ looked points x
   unfolding looked

@@ -55,12 +55,12 @@ motorAt a b min max = record {
   «f_max» = thrust (thrustOf a b (min .0) (max .0) (max .0));
 }
 
-unfoldable pub made : Float → Float → Command → Command → Made
-made a b min max = cond (badMotor (motorAt a b min max))
+unfoldable pub newMotorLin : Float → Float → Command → Command → Made
+newMotorLin a b min max = cond (badMotor (motorAt a b min max))
     (record { refusal = Refusal.Motor; motor = zeroMotor })
     (record { refusal = Refusal.None; motor = motorAt a b min max })
 
--- an answer in thrust, and one in command, of a motor that is not refused
+-- an answer in thrust, and one in command: +0 where the motor is refused
 unfoldable pub inForce : MotorLin → Thrust → Forced
 inForce m f = cond (badMotor m) (record { refusal = Refusal.Motor; force = thrust F.zero }) (record { refusal = Refusal.None; force = f })
 

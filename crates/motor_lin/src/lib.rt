@@ -1,6 +1,6 @@
 // motor_lin.rs: the curve between a motor's command and its thrust.
 ghost use mathlib.Core.Path.{_≡_};
-ghost use Rattle.motor_lin.specs.MotorLin.{thrustOf, commandOf, badMotor, zeroMotor, motorAt, made, commandToForce, forceToCommand, minForce, maxForce};
+ghost use Rattle.motor_lin.specs.MotorLin.{thrustOf, commandOf, badMotor, zeroMotor, motorAt, newMotorLin, commandToForce, forceToCommand, minForce, maxForce};
 use refusal::Refusal;
 
 // The two units. One is not accepted where the other is asked for.
@@ -99,7 +99,7 @@ impl MotorLin {
     }
 
     pub fn new(a: f32, b: f32, min: Command, max: Command) -> Made
-        ensures { λ r. ⌜ r ≡ made a b min max ⌝ }
+        ensures { λ r. ⌜ r ≡ newMotorLin a b min max ⌝ }
     {
         let motor = motor_at(a, b, min, max);
         if motor.is_bad() {

@@ -22,7 +22,7 @@ use Rattle.rate_pid.specs.declared.slew.Slew.{Slew}
 use Rattle.rate_pid.specs.declared.slew.Slew.the-variants.{On}
 use Rattle.rate_pid.specs.declared.slew.Slewed.{Slewed}
 use Rattle.rate_pid.specs.Slew.{badSlew, setDtSlew, stepSlew}
-use Rattle.rate_pid.specs.RatePid.{slewedOf, filteredOf, gainOf, refRateOf, measRateOf, calm, calmOf, dampedOf, dampingOf, grownOf, integrated, integratedOf, termsOf, stepRate, totalOf, withSlew, limitRate, tsRate, badRate, changed, updated, callSlew, callSetTs, callUpdate}
+use Rattle.rate_pid.specs.RatePid.{slewedOf, filteredOf, dGainOf, refDerivativeOf, measDerivativeOf, calm, calmOf, dampedOf, dampingOf, grownOf, integrated, integratedOf, termsOf, stepRate, totalOf, withSlew, limitRate, tsRate, badRate, changed, updated, callSlew, callSetTs, callUpdate}
 use Rattle.rate_pid.specs.RatePidLaws.{slew-accepted, guard-passed, update-accepted}
 
 -- ---- a limiter whose limit is good does not refuse
@@ -47,14 +47,14 @@ module _ (on : Bool) (filtered slewed : Float) where
   unfolding calm
   off h = simp h
 
-  module _ (h : on ≡ true) (calms : Bool) (e : calms ≡ lt (absF filtered) F.one) where
-    pub loud : calms ≡ false → false ≡ calm on filtered slewed
+  module _ (h : on ≡ true) (first : Bool) (e : first ≡ lt (absF filtered) F.one) where
+    pub loud : first ≡ false → false ≡ calm on filtered slewed
     unfolding calm
     loud k = simp (h, sym e, k)
 
-    pub quiet : calms ≡ true → (turn : Bool) → turn ≡ lt (absF slewed) F.one → turn ≡ calm on filtered slewed
+    pub quiet : first ≡ true → (second : Bool) → second ≡ lt (absF slewed) F.one → second ≡ calm on filtered slewed
     unfolding calm
-    quiet k turn g = simp (h, sym e, k, g)
+    quiet k second g = simp (h, sym e, k, g)
 
 module _ (s : RatePid) where
   pub grows : (moves : Bool) (rate error size kept : Float) (damped : Lowpassed) → moves ≡ true → size ≡ absF rate → damped ≡ stepLowpass (s .lowpass) size
@@ -87,7 +87,7 @@ module _ (s : RatePid) where
         «d_slew» = s .«d_slew»;
       }) (slewed .slew)
       → out ≡ stepRate s r m p
-  unfolding stepRate termsOf integratedOf calmOf slewedOf filteredOf refRateOf measRateOf gainOf withSlew
+  unfolding stepRate termsOf integratedOf calmOf slewedOf filteredOf refDerivativeOf measDerivativeOf dGainOf withSlew
   assembled r m p slewed filtered moves next out e1 e2 e3 e4 e5 = simp (e5, e4, e3, e2, e1)
 
   -- ---- the calls, on a state that is not bad

@@ -27,10 +27,10 @@ ten = ofBits binary32 0x4120_0000
 unfoldable pub zeroTerms : PidTerms
 zeroTerms = record { «p_out» = F.zero; «i_out» = F.zero; «dr_out» = F.zero; «dm_out» = F.zero }
 
--- all zero, its switches off
 unfoldable pub zeroLowpass : Lowpass
 zeroLowpass = record { tau = F.zero; dt = F.zero; y = F.zero; alpha0 = F.zero; alpha1 = F.zero }
 
+-- all zero, its switches off
 unfoldable pub zeroRate : RatePid
 zeroRate = record {
   kp = F.zero;
@@ -57,16 +57,16 @@ unfoldable pub filteredOf : RatePid → Float → Float
 filteredOf s m = stepLowpass2 (s .«d_lowpass») m .y
 
 -- d_gain = kd/dt
-unfoldable pub gainOf : RatePid → Float
-gainOf s = s .kd /f s .dt
+unfoldable pub dGainOf : RatePid → Float
+dGainOf s = s .kd /f s .dt
 
 -- the derivative of the slewed reference
-unfoldable pub refRateOf : RatePid → Float → Float
-refRateOf s r = gainOf s *f (slewedOf s r -f s .«prev_ref»)
+unfoldable pub refDerivativeOf : RatePid → Float → Float
+refDerivativeOf s r = dGainOf s *f (slewedOf s r -f s .«prev_ref»)
 
 -- the derivative of the filtered measurement, turned round as that of reference minus measurement is
-unfoldable pub measRateOf : RatePid → Float → Float
-measRateOf s m = gainOf s *f (s .«prev_meas» -f filteredOf s m)
+unfoldable pub measDerivativeOf : RatePid → Float → Float
+measDerivativeOf s m = dGainOf s *f (s .«prev_meas» -f filteredOf s m)
 
 -- the integral is on, and |filtered measurement| < 1 and |slewed reference| < 1
 unfoldable pub calm : Bool → Float → Float → Bool
@@ -77,33 +77,33 @@ calmOf s r m = calm (s .«integral_en») (filteredOf s m) (slewedOf s r)
 
 -- the damping filter, fed the size of the measurement's derivative
 unfoldable pub dampedOf : RatePid → Float → Lowpassed
-dampedOf s rate = stepLowpass (s .lowpass) (absF rate)
+dampedOf s derivative = stepLowpass (s .lowpass) (absF derivative)
 
 -- what the integral's growth is divided by
 unfoldable pub dampingOf : RatePid → Float → Float
-dampingOf s rate = F.one +f dampedOf s rate .y
+dampingOf s derivative = F.one +f dampedOf s derivative .y
 
 -- clamp(integral + ki·error·dt/damping, −1, 1)
 unfoldable pub grownOf : RatePid → Float → Float → Float
-grownOf s rate error = clampF (s .integral +f s .ki *f error *f s .dt /f dampingOf s rate) F.minusOne F.one
+grownOf s derivative error = clampF (s .integral +f s .ki *f error *f s .dt /f dampingOf s derivative) F.minusOne F.one
 
 -- the integral grows and the damping filter is fed, or both stay
 unfoldable pub integrated : RatePid → Bool → Float → Float → Integrated
-integrated s moves rate error =
+integrated s moves derivative error =
     cond moves
-    (record { integral = grownOf s rate error; lowpass = dampedOf s rate .filter })
+    (record { integral = grownOf s derivative error; lowpass = dampedOf s derivative .filter })
     (record { integral = s .integral; lowpass = s .lowpass })
 
 unfoldable pub integratedOf : RatePid → Float → Float → Float → Integrated
-integratedOf s r m p = integrated s (calmOf s r m) (measRateOf s m) (p -f m)
+integratedOf s r m p = integrated s (calmOf s r m) (measDerivativeOf s m) (p -f m)
 
 -- P goes by the raw reference
 unfoldable pub termsOf : RatePid → Float → Float → Float → PidTerms
 termsOf s r m p = record {
   «p_out» = s .kp *f (r -f m);
   «i_out» = integratedOf s r m p .integral;
-  «dr_out» = refRateOf s r;
-  «dm_out» = measRateOf s m;
+  «dr_out» = refDerivativeOf s r;
+  «dm_out» = measDerivativeOf s m;
 }
 
 -- ---- an update, whatever the limit: the state after it, of whose terms the output is the sum

@@ -1,7 +1,7 @@
 -- Laws of the rate controller, for every state and every input: what its calls leave when refused, when the integral moves
 -- and when it stands still, its bound, and that the terms are what the output adds up. Assumes nothing.
 use mathlib.Core.Path.{_≡_, refl, sym, _∙_}
-use mathlib.Core.Bool.{Bool, true, false, cond, _&&_, true≢false}
+use mathlib.Core.Bool.{and-true, and-false, Bool, true, false, cond, _&&_}
 use mathlib.Core.Logic.{_⊎_, inl, inr}
 use Prim.Native.Nat.{ℕ, _+_, _<_}
 use native.Mathlib.Omega.{arith}
@@ -13,7 +13,7 @@ use lib.Ieee.Fits.{down-pos}
 use Rattle.float.specs.F32 as F
 use Rattle.float.specs.F32.{_+f_, _-f_}
 use Rattle.float.specs.Float.{absF}
-use Rattle.float.specs.FloatLaws.{Within, clamp-within, lt-nan}
+use Rattle.float.specs.FloatLaws.{and-left, and-right, Within, clamp-within, lt-nan}
 use Rattle.refusal.specs.declared.Refusal.the-variants as Refusal
 use Rattle.filters.specs.SlewRate.{badLimit, slewStep, slewSetDt}
 use Rattle.rate_pid.specs.declared.RatePid.{RatePid}
@@ -21,7 +21,7 @@ use Rattle.rate_pid.specs.declared.Changed.{Changed}
 use Rattle.rate_pid.specs.declared.slew.Slew.{Slew}
 use Rattle.rate_pid.specs.declared.slew.Slew.the-variants.{Off, On}
 use Rattle.rate_pid.specs.Slew.{badSlew, setDtSlew, stepSlew}
-use Rattle.rate_pid.specs.RatePid.{zeroTerms, zeroRate, slewedOf, filteredOf, measRateOf, calm, calmOf, dampedOf, grownOf, integrated, integratedOf, stepRate, totalOf, newRate, withSlew, limitRate, tsRate, gainsRate, enableRate, resetRate, badRate, changed, updated, told, guarded, callSlew, callSetTs, callSetGains, callEnableIntegral, callResetIntegral, callEnableResetIntegral, callUpdate, callGetTerms}
+use Rattle.rate_pid.specs.RatePid.{zeroTerms, zeroRate, slewedOf, filteredOf, measDerivativeOf, calm, calmOf, dampedOf, grownOf, integrated, integratedOf, stepRate, totalOf, newRate, withSlew, limitRate, tsRate, gainsRate, enableRate, resetRate, badRate, changed, updated, told, guarded, callSlew, callSetTs, callSetGains, callEnableIntegral, callResetIntegral, callEnableResetIntegral, callUpdate, callGetTerms}
 
 -- ---- refused, a call leaves the state, and its numbers are +0
 
@@ -102,7 +102,7 @@ update-keeps P s r m p before after = go (badRate s)
     go true = before
     go false = after
 
--- ---- no step makes a good stored limit bad, or a bad one good
+-- ---- whether the stored limit is bad: `limitRate` takes that of the limit given, and nothing else changes it
 
 slew-step-limit : (d : Slew) (x : Float) → badSlew (stepSlew d x .slew) ≡ badSlew d
 unfolding badSlew stepSlew slewStep
@@ -152,14 +152,10 @@ module _ (s : RatePid) where
 abbrev pub Between : Float → Type 0
 Between x = (lt F.minusOne x ≡ true) × (lt x F.one ≡ true)
 
-and-true : (p : Bool) → p ≡ p && true
-and-true true = refl
-and-true false = refl
-
 -- of sizes, one above 0
 sizes-between : (s : Bool) (a b : ℕ) → 0 < b → below false a false b ≡ below true b s a && below s a false b
 sizes-between false a b h = simp (lt-ltb 0 (b + a) (omega arith))
-sizes-between true a b h = simp (lt-ltb 0 (a + b) (omega arith)) (and-true (ltb a b))
+sizes-between true a b h = simp (lt-ltb 0 (a + b) (omega arith)) (sym (and-true (ltb a b)))
 
 pub abs-below-one : (x : Float) → lt (absF x) F.one ≡ lt F.minusOne x && lt x F.one
 unfolding lt absF ofBits neg
@@ -168,12 +164,8 @@ abs-below-one (inf true) = refl
 abs-below-one (inf false) = refl
 abs-below-one (fin s m e) = sizes-between s _ _ (mul-pos (omega arith) (down-pos e))
 
-both : (p q : Bool) → p && q ≡ true → (p ≡ true) × (q ≡ true)
-both true q h = (refl, h)
-both false q h = absurd (true≢false (sym h))
-
 between : (x : Float) → lt (absF x) F.one ≡ true → Between x
-between x h = both (lt F.minusOne x) (lt x F.one) (sym (abs-below-one x) ∙ h)
+between x h = let g = sym (abs-below-one x) ∙ h in (and-left (lt F.minusOne x) (lt x F.one) g, and-right (lt F.minusOne x) (lt x F.one) g)
 
 -- ---- the integral moves exactly when it is on and both numbers are strictly between −1 and 1
 
@@ -181,16 +173,15 @@ module _ (s : RatePid) (r m : Float) where
   pub calm-means : calmOf s r m ≡ true → (s .«integral_en» ≡ true) × Between (filteredOf s m) × Between (slewedOf s r)
   unfolding calmOf calm
   calm-means h =
-      let outer = both (s .«integral_en») _ h in
-      let inner = both (lt (absF (filteredOf s m)) F.one) _ (outer .1) in
-      (outer .0, between _ (inner .0), between _ (inner .1))
+      let inner = and-right (s .«integral_en») _ h in
+      (and-left (s .«integral_en») _ h, between _ (and-left (lt (absF (filteredOf s m)) F.one) _ inner), between _ (and-right (lt (absF (filteredOf s m)) F.one) _ inner))
 
   pub calm-when : s .«integral_en» ≡ true → Between (filteredOf s m) → Between (slewedOf s r) → calmOf s r m ≡ true
   unfolding calmOf calm
   calm-when on f g = simp (on, abs-below-one, f .0, f .1, g .0, g .1)
 
   pub moves : (p : Float) → calmOf s r m ≡ true
-      → (stepRate s r m p .integral ≡ grownOf s (measRateOf s m) (p -f m)) × (stepRate s r m p .lowpass ≡ dampedOf s (measRateOf s m) .filter)
+      → (stepRate s r m p .integral ≡ grownOf s (measDerivativeOf s m) (p -f m)) × (stepRate s r m p .lowpass ≡ dampedOf s (measDerivativeOf s m) .filter)
   unfolding stepRate integratedOf integrated
   moves p h = (simp h, simp h)
 
@@ -210,10 +201,6 @@ Frozen s r m = (s .«integral_en» ≡ false) ⊎ (Outside (filteredOf s m) ⊎ 
 -- the integral and the damping filter are those of s
 abbrev pub Stood : RatePid → RatePid → Type 0
 Stood s t = (t .integral ≡ s .integral) × (t .lowpass ≡ s .lowpass)
-
-and-false : (p : Bool) → p && false ≡ false
-and-false true = refl
-and-false false = refl
 
 pub not-calm : (s : RatePid) (r m : Float) → Frozen s r m → calmOf s r m ≡ false
 unfolding calmOf calm
@@ -253,7 +240,7 @@ pub step-bounded : (s : RatePid) (r m p : Float) → Bounded s → Bounded (step
 unfolding stepRate integratedOf integrated
 step-bounded s r m p b = go (calmOf s r m)
   where
-    go : (t : Bool) → Within F.minusOne F.one (integrated s t (measRateOf s m) (p -f m) .integral)
+    go : (t : Bool) → Within F.minusOne F.one (integrated s t (measDerivativeOf s m) (p -f m) .integral)
     go true = grown-within s _ _
     go false = b
 

@@ -1,4 +1,4 @@
--- A definition picks between two answers by a test, `cond`: the one that it gives where the test is known.
+-- The cases that proofs go by: of a test, by which a definition picks between two answers, and of two numbers.
 use mathlib.Core.Path.{_≡_, refl}
 use mathlib.Core.Bool.{Bool, true, false, cond, not, _&&_}
 use mathlib.Core.Logic.{_⊎_, inl, inr}
@@ -19,7 +19,6 @@ first-fails p q h = simp h
 pub first-holds : (p q : Bool) → p ≡ true → not q ≡ not (p && q)
 first-holds p q h = simp h
 
--- of two numbers
 pub lt-or-le : (a b : ℕ) → (a < b) ⊎ (b ≤ a)
 lt-or-le a b = go (ltb a b) refl
   where

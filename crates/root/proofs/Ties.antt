@@ -1,21 +1,20 @@
 -- Which values the tests of `sqrt` leave, and that each of its answers is the definition's. Assumes nothing.
 use mathlib.Core.Path.{_≡_, refl, sym, ap, _∙_}
 use mathlib.Core.Bool.{true, false, not, true≢false}
-use Prim.Native.Nat.{ℕ, zero, suc, _*_, _%_, _^_, _<_}
+use Prim.Native.Nat.{ℕ, zero, suc, _^_, _<_}
 use native.Mathlib.Omega.{arith}
-use lib.Arith.{le→nltb}
 use lib.Dec.{T}
 use lib.Ieee.{Float, nan, inf, fin, binary32, ofBits, toBits, nanBits, isNan, fits, lt, eq}
-use lib.Ieee.Bits.{ofBits-toBits, nanBits-above}
+use lib.Ieee.Bits.{ofBits-toBits}
 use Rattle.float.specs.F32 as F
-use Rattle.float.specs.FloatLaws.{lt-right, eq-zero, zero-equals, above-zero, zero-not-above}
+use Rattle.float.specs.FloatLaws.{lt-right, eq-zero, zero-equals, above-zero, zero-not-above, no-nan-pattern}
 use Rattle.root.specs.Root.{root, rootBits}
 use Rattle.root.specs.RootRule.{root-infinity}
 use Rattle.root.specs.RootLaws.{root-finite}
 use Rattle.root.specs.Values.{infinite}
 
-pub not-nan : (x : Float) → lt F.zero x ≡ true → T (not (isNan x))
-not-nan x h = let e : isNan x ≡ false = lt-right F.zero x h in rw e tt
+pub above-is-number : (x : Float) → lt F.zero x ≡ true → T (not (isNan x))
+above-is-number x h = let e : isNan x ≡ false = lt-right F.zero x h in rw e tt
 
 pub at-infinity : (x : Float) → T (fits binary32 x) → toBits binary32 x ≡ 0x7f80_0000 → x ≡ root x
 at-infinity x fit e =
@@ -48,4 +47,4 @@ neither (fin true (suc m) e) h k = refl
 neither (fin false (suc m) e) h k = absurd (true≢false (sym (above-zero m e) ∙ h))
 
 pub no-nan : (b : ℕ) → b < 2 ^ 31 → T (not (nanBits binary32 (rootBits b)))
-no-nan b h = rw (nanBits-above binary32 (rootBits b)) (le→nltb (255 * 2 ^ 23) (rootBits b % 2 ^ 31) (omega (arith, root-finite b h)))
+no-nan b h = no-nan-pattern (rootBits b) (omega (arith, root-finite b h))

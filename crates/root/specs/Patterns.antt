@@ -2,7 +2,7 @@
 use mathlib.Core.Path.{_≡_, refl, ap, _∙_, subst}
 use mathlib.Core.Logic.{inl, inr}
 use Prim.Native.Nat.{ℕ, zero, suc, _+_, _-_, _*_, _/_, _%_, _^_, _≤_, _<_}
-use native.Mathlib.Nat.{le-refl, le-trans, le-of-eq, le-of-lt, lt-of-lt-of-le, eq-or-lt-of-le, mul-le-mul, mul-le-mul-left, mul-lt-mul-of-pos-right, add-mul, mul-add, pow-suc, add-comm}
+use native.Mathlib.Nat.{le-refl, le-trans, le-of-eq, le-of-lt, lt-of-lt-of-le, eq-or-lt-of-le, mul-le-mul, mul-le-mul-left, mul-le-mul-right, mul-lt-mul-of-pos-right, add-mul, mul-add, pow-suc, add-comm}
 use native.Mathlib.Numerals.{add-one}
 use native.Mathlib.Omega.{arith}
 use lib.Pow.{pow-mono, pow-pos, high, low}
@@ -29,7 +29,7 @@ pub fourfold-is : (b : ℕ) → fourfold b ≡ 4 * scaled b * 2 ^ 149
 unfolding fourfold
 fourfold-is b = refl
 
-pub one-is : scaled 1 ≡ 1
+one-is : scaled 1 ≡ 1
 unfolding scaled ofParts
 one-is = refl
 
@@ -66,6 +66,10 @@ scaled-strict a b h =
 
 pub scaled-mono : (a b : ℕ) → a ≤ b → scaled a ≤ scaled b
 scaled-mono a b h = elim (eq-or-lt-of-le h) [ inl e ↦ le-of-eq (ap scaled e) | inr l ↦ le-of-lt (scaled-strict a b l) ]
+
+-- the least number above zero, fourfold
+pub fourfold-least : (b : ℕ) → 0 < b → 4 * 1 * 2 ^ 149 ≤ fourfold b
+fourfold-least b B = let s : 1 ≤ scaled b = rw one-is at (scaled-mono 1 b B) in rw fourfold-is (mul-le-mul-right (2 ^ 149) (mul-le-mul-left 4 s))
 
 pub middle-mono : (a b : ℕ) → a ≤ b → middle a ≤ middle b
 unfolding middle
@@ -114,14 +118,9 @@ next-middle k r h l =
     let b : scaled (suc y - 1) ≡ r * 2 ^ k = ap scaled down ∙ scaled-at k r h (omega arith) in
     middle-is (suc y) ∙ rw (a, b) (simp add-mul (omega arith))
 
--- r - 1 + r where r is not a least one
+-- the same at y = k · 2 ^ 23 + (r + 1)
 pub own-middle : (k r : ℕ) → 2 ^ 23 ≤ r → r + 1 < 2 ^ 24 → middle (k * 2 ^ 23 + (r + 1)) ≡ (r + r + 1) * 2 ^ k
-own-middle k r h l =
-    let y = k * 2 ^ 23 + (r + 1) in
-    let down : y - 1 ≡ k * 2 ^ 23 + r = omega arith in
-    let a : scaled y ≡ (r + 1) * 2 ^ k = scaled-at k (r + 1) (omega arith) (omega arith) in
-    let b : scaled (y - 1) ≡ r * 2 ^ k = ap scaled down ∙ scaled-at k r h (omega arith) in
-    rw (middle-is y, a, b) (simp add-mul (omega arith))
+own-middle k r h l = let e : k * 2 ^ 23 + (r + 1) ≡ suc (k * 2 ^ 23 + r) = omega arith in ap middle e ∙ next-middle k r h (omega arith)
 
 pub scaled-small : (b : ℕ) → b < 2 ^ 23 → scaled b ≡ b
 scaled-small b h =

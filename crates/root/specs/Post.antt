@@ -3,12 +3,14 @@ use mathlib.Core.Path.{_≡_}
 use Prim.Native.Nat.{ℕ, _+_, _*_, _^_, _≤_, _<_}
 use Rattle.root.specs.Root.{scaled}
 
+-- m · 2 ^ e is the number of the pattern b, in units of 2 ^ -275, and m has 24 digits.
 pub record IsParts (b m e : ℕ) : Type 0 where
   pub least : 2 ^ 23 ≤ m
   pub most : m < 2 ^ 24
   pub exponent : e ≤ 381
   pub value : m * 2 ^ e ≡ scaled b * 2 ^ 126
 
+-- r is the root of n, rounded: (r - ½)² < n < (r + ½)², which over whole numbers is r² - r < n ≤ r² + r.
 pub record IsRounded (n r : ℕ) : Type 0 where
   pub least : 2 ^ 23 ≤ r
   pub most : r < 2 ^ 24

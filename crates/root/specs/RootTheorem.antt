@@ -2,7 +2,7 @@
 use mathlib.Core.Path.{_≡_, refl}
 use mathlib.Core.Bool.{false}
 use Prim.Native.Nat.{ℕ, zero, suc, _+_, _-_, _*_, _^_, _≤_, _<_}
-use native.Mathlib.Nat.{lt-irrefl, lt-of-lt-of-le, mul-le-mul-left, mul-le-mul-right, le-trans, le-of-lt}
+use native.Mathlib.Nat.{lt-irrefl, lt-of-lt-of-le, le-trans, le-of-lt}
 use native.Mathlib.Omega.{arith}
 use native.Mathlib.Decide.{decLt}
 use lib.Dec.{lit<}
@@ -10,7 +10,7 @@ use lib.Ieee.{binary32, ofBits}
 use lib.Ieee.Exact.{HasValue}
 use Rattle.root.specs.Root.{ofParts, scaled, middle, fourfold, rootBits}
 use Rattle.root.specs.RootLaws.{Nearest, root-nearest, root-finite}
-use Rattle.root.specs.Patterns.{scaled-strict, scaled-mono, middle-is, middle-next, fourfold-is, one-is}
+use Rattle.root.specs.Patterns.{scaled-strict, scaled-mono, middle-is, middle-next, fourfold-is, fourfold-least}
 use Rattle.root.specs.Values.{pattern-value}
 
 -- Document 01's rule for the number x above zero of the pattern b, its answer y and the patterns beside y, those of y's neighbours p and s:
@@ -40,8 +40,7 @@ first-middle = refl
 some-root : (b y : ℕ) → 0 < b → Nearest (fourfold b) y → 0 < y
 some-root b zero B N =
     let a : fourfold b < 1 = rw first-middle at (N .above) in
-    let s : 1 ≤ scaled b = rw one-is at (scaled-mono 1 b B) in
-    let m : 4 * 1 * 2 ^ 149 ≤ fourfold b = rw fourfold-is (mul-le-mul-right (2 ^ 149) (mul-le-mul-left 4 s)) in
+    let m = fourfold-least b B in
     absurd (lt-irrefl 1 (lt-of-lt-of-le (lit< {m = 1} {n = 4 * 1 * 2 ^ 149} tt) (le-trans m (le-of-lt a))))
 some-root b (suc y) B N = omega arith
 

@@ -2,14 +2,14 @@
 use mathlib.Core.Path.{_≡_, refl, sym, ap, _∙_, subst}
 use mathlib.Core.Logic.{inl, inr}
 use Prim.Native.Nat.{ℕ, zero, suc, _+_, _-_, _*_, _/_, _%_, _^_, _≤_, _<_, zero-le}
-use native.Mathlib.Nat.{lt-irrefl, lt-of-lt-of-le, lt-of-le-of-lt, eq-or-lt-of-le, eq-of-mul-eq-mul-right, mul-le-mul-left, mul-le-mul-right, mul-comm, mul-assoc, mul-one, mul-mul-mul-comm, pow-suc, le-dest, le-mul-of-pos-right}
+use native.Mathlib.Nat.{lt-irrefl, lt-of-lt-of-le, lt-of-le-of-lt, eq-or-lt-of-le, eq-of-mul-eq-mul-right, mul-comm, mul-assoc, mul-one, mul-mul-mul-comm, pow-suc, le-dest, le-mul-of-pos-right}
 use native.Mathlib.Omega.{arith}
 use native.Mathlib.Decide.{decLe}
 use lib.Dec.{lit<}
 use lib.Pow.{pow-pos, pow-add}
 use Rattle.root.specs.Root.{ofParts, scaled, middle, fourfold, rootBits}
 use Rattle.root.specs.RootLaws.{root-nearest, nearest-unique}
-use Rattle.root.specs.Patterns.{scaled-mono, square-mono, middle-is, own-middle, scaled-at, scaled-is, parts-at, parts-zero, odd-square, fourfold-is, one-is}
+use Rattle.root.specs.Patterns.{square-mono, middle-is, own-middle, scaled-at, scaled-is, parts-at, parts-zero, odd-square, fourfold-is, fourfold-least}
 
 -- ---- an odd square of 49 digits or more is no number of 24 digits, by any power of two
 
@@ -79,8 +79,7 @@ least-middle-is = refl
 
 small : (b y : ℕ) → 0 < b → y ≤ 2 ^ 23 → middle y * middle y < fourfold b
 small b y B h =
-    let s : 1 ≤ scaled b = rw one-is at (scaled-mono 1 b B) in
-    let m : 4 * 1 * 2 ^ 149 ≤ fourfold b = rw fourfold-is (mul-le-mul-right (2 ^ 149) (mul-le-mul-left 4 s)) in
+    let m = fourfold-least b B in
     let a : middle y * middle y ≤ (2 ^ 24 - 1) * (2 ^ 24 - 1) = rw least-middle-is at (square-mono y (2 ^ 23) h) in
     lt-of-le-of-lt a (lt-of-lt-of-le (lit< {m = (2 ^ 24 - 1) * (2 ^ 24 - 1)} {n = 4 * 1 * 2 ^ 149} tt) m)
 

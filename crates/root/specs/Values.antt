@@ -1,19 +1,19 @@
 -- The toolchain's IEEE values of patterns, and the patterns of the numbers above zero. Assumes nothing.
 use mathlib.Core.Path.{_≡_, refl, sym, ap, _∙_, subst}
-use mathlib.Core.Bool.{Bool, true, false, not, cond, true≢false}
+use mathlib.Core.Bool.{Bool, true, false, cond, true≢false}
 use Prim.Native.Nat.{ℕ, zero, suc, _+_, _*_, _/_, _%_, _^_, _≤_, _<_}
 use native.Mathlib.Nat.{mul-one, mod-eq-of-lt}
 use native.Mathlib.Omega.{arith}
 use native.Mathlib.Decide.{decLt}
+use borrow.Author.Tests.{lt-leb, le-leb, ltb-false}
 use lib.IntN.{ℤ}
-use lib.Arith.{lt→nleb}
-use lib.Dec.{T, leb, ltb, eqb, not-T, eqb→eq, nltb→le, le→leb}
+use lib.Dec.{T, ltb, eqb, not-T, eqb→eq}
 use lib.Ieee.{Float, nan, inf, fin, binary32, ofBits, ofFields, odd, toBits, isNan, fits, lt}
-use lib.Ieee.Bits.{is-true, is-false, cond-no, ofBits-toBits, nanBits-is, nanBits-above}
+use lib.Ieee.Bits.{cond-no, ofBits-toBits, nanBits-is, nanBits-above}
 use lib.Ieee.Exact.{HasValue, odd-sign}
 use lib.Ieee.Scale.{finite}
 use Rattle.float.specs.F32 as F
-use Rattle.float.specs.FloatLaws.{above-zero}
+use Rattle.float.specs.FloatLaws.{above-zero, lt-irreflexive}
 use Rattle.root.specs.Root.{ofParts, scaled}
 
 -- ---- a pattern below the infinity's stands for `scaled` units of 2 ^ -149
@@ -28,7 +28,7 @@ fields-value (suc x) t h =
 ofBits-is : (b : ℕ) → b < 2 ^ 31 → ofBits binary32 b ≡ ofFields binary32 false (b / 2 ^ 23) (b % 2 ^ 23)
 unfolding ofBits
 ofBits-is b h =
-    ap (λ (s : Bool). ofFields binary32 s (b % 2 ^ 31 / 2 ^ 23) (b % 2 ^ 23)) (is-false (leb (2 ^ 31) b) (lt→nleb (2 ^ 31) b h))
+    ap (λ (s : Bool). ofFields binary32 s (b % 2 ^ 31 / 2 ^ 23) (b % 2 ^ 23)) (lt-leb (2 ^ 31) b h)
     ∙ ap (λ (n : ℕ). ofFields binary32 false (n / 2 ^ 23) (b % 2 ^ 23)) (mod-eq-of-lt h)
 
 pub pattern-value : (b : ℕ) → b < 255 * 2 ^ 23 → HasValue (ofBits binary32 b) false (scaled b) (2 ^ 149)
@@ -53,17 +53,9 @@ unfolding ofFields
 neg-fields zero t = neg-odd t 0 149
 neg-fields (suc x) t = neg-cond (eqb (suc x) 255) (eqb t 0) (2 ^ 23 + t) x
 
--- a pattern from the sign's weight on has the sign set
-high-sign : (b : ℕ) → 2 ^ 31 ≤ b → leb (2 ^ 31) b ≡ true
-high-sign b h = is-true (leb (2 ^ 31) b) (le→leb (2 ^ 31) b h)
-
 neg-bits : (b : ℕ) → 2 ^ 31 ≤ b → lt F.zero (ofBits binary32 b) ≡ false
 unfolding ofBits ofFields
-neg-bits b h = ap (λ (s : Bool). lt F.zero (ofFields binary32 s (b % 2 ^ 31 / 2 ^ 23) (b % 2 ^ 23))) (high-sign b h) ∙ neg-fields (b % 2 ^ 31 / 2 ^ 23) (b % 2 ^ 23)
-
-zero-not-above : lt F.zero F.zero ≡ false
-unfolding lt ofBits
-zero-not-above = refl
+neg-bits b h = ap (λ (s : Bool). lt F.zero (ofFields binary32 s (b % 2 ^ 31 / 2 ^ 23) (b % 2 ^ 23))) (le-leb (2 ^ 31) b h) ∙ neg-fields (b % 2 ^ 31 / 2 ^ 23) (b % 2 ^ 23)
 
 module _ (x : Float) (fit : T (fits binary32 x)) (h : lt F.zero x ≡ true) where
   pub no-sign : toBits binary32 x < 2 ^ 31
@@ -77,7 +69,7 @@ module _ (x : Float) (fit : T (fits binary32 x)) (h : lt F.zero x ≡ true) wher
     | yes l ↦ l
     | no f ↦
         let z : toBits binary32 x ≡ 0 = omega arith in
-        absurd (true≢false (sym h ∙ ap (lt F.zero) (sym (ofBits-toBits binary32 x fit) ∙ ap (ofBits binary32) z) ∙ zero-not-above))
+        absurd (true≢false (sym h ∙ ap (lt F.zero) (sym (ofBits-toBits binary32 x fit) ∙ ap (ofBits binary32) z) ∙ lt-irreflexive F.zero))
   ]
 
 -- ---- a finite value's pattern lies below the infinity's
@@ -92,16 +84,13 @@ plain-number m e = refl
 pub low-bits : (m : ℕ) (e : ℤ) → T (fits binary32 (fin false (suc m) e)) → toBits binary32 (fin false (suc m) e) < 2 ^ 31
 low-bits m e F = no-sign (fin false (suc m) e) F (above-zero m e)
 
-T-not : (t : Bool) → t ≡ false → T (not t)
-T-not t e = subst (λ (z : Bool). T (not z)) (sym e) tt
-
 pub finite-bits : (m : ℕ) (e : ℤ) → T (fits binary32 (fin false (suc m) e)) → toBits binary32 (fin false (suc m) e) < 255 * 2 ^ 23
 finite-bits m e F =
     let x = fin false (suc m) e in
     let b = toBits binary32 x in
     let back : ofBits binary32 b ≡ x = ofBits-toBits binary32 x F in
     let number : ltb (255 * 2 ^ 23) (b % 2 ^ 31) ≡ false = sym (nanBits-above binary32 b) ∙ nanBits-is binary32 b ∙ ap isNan back ∙ plain-number (suc m) e in
-    let most : b ≤ 255 * 2 ^ 23 = omega (arith, nltb→le (255 * 2 ^ 23) (b % 2 ^ 31) (T-not (ltb (255 * 2 ^ 23) (b % 2 ^ 31)) number), low-bits m e F) in
+    let most : b ≤ 255 * 2 ^ 23 = omega (arith, ltb-false (255 * 2 ^ 23) (b % 2 ^ 31) number, low-bits m e F) in
     elim (decLt b (255 * 2 ^ 23)) [
       | yes l ↦ l
       | no f ↦

@@ -21,17 +21,19 @@ fresh alpha = record { initialized = false; alpha = alpha; mean = F.zero; varian
 
 -- The first sample is the mean. A later one moves the mean by delta·alpha, and the variance becomes (variance + delta·delta·alpha)·(1 − alpha).
 unfoldable pub sampled : Statistics → Float → Statistics
-sampled s x = cond (s .initialized)
+sampled s x =
+    let delta = x -f s .mean in
+    cond (s .initialized)
     (record {
       initialized = true;
       alpha = s .alpha;
-      mean = s .mean +f (x -f s .mean) *f s .alpha;
-      variance = (s .variance +f (x -f s .mean) *f (x -f s .mean) *f s .alpha) *f (F.one -f s .alpha);
+      mean = s .mean +f delta *f s .alpha;
+      variance = (s .variance +f delta *f delta *f s .alpha) *f (F.one -f s .alpha);
     })
     (record { initialized = true; alpha = s .alpha; mean = x; variance = F.zero })
 
-unfoldable pub made : Float → Made
-made alpha = cond (badAlpha alpha)
+unfoldable pub newStatistics : Float → Made
+newStatistics alpha = cond (badAlpha alpha)
     (record { refusal = Refusal.Alpha; statistics = zeroStatistics })
     (record { refusal = Refusal.None; statistics = fresh alpha })
 

@@ -1,6 +1,6 @@
 // statistics.rs: mean and variance of a signal that forgets.
 ghost use mathlib.Core.Path.{_≡_};
-ghost use Rattle.statistics.specs.Statistics.{badAlpha, zeroStatistics, made, sampled, addSample, meanVar, stdDev};
+ghost use Rattle.statistics.specs.Statistics.{badAlpha, zeroStatistics, newStatistics, sampled, addSample, meanVar, stdDev};
 use refusal::Refusal;
 
 pub struct Statistics {
@@ -69,7 +69,7 @@ fn sampled(s: Statistics, sample: f32) -> Statistics
 
 impl Statistics {
     pub fn new(alpha: f32) -> Made
-        ensures { λ r. ⌜ r ≡ made alpha ⌝ }
+        ensures { λ r. ⌜ r ≡ newStatistics alpha ⌝ }
     {
         if bad_alpha(alpha) {
             let refusal = Refusal::Alpha;

@@ -1,4 +1,5 @@
-use Rattle.float.proofs.Ties.{nan-pattern, no-nan-pattern}
+use Rattle.float.specs.FloatLaws.{no-nan-pattern}
+use Rattle.float.proofs.Ties.{nan-pattern}
 use borrow.Author.Needs.{needs}
 use Rattle.float.proofs.from_bits.Statement.{statement}
 use Rattle.float.proofs.from_bits.Tie as tie

@@ -5,7 +5,7 @@ use lib.Ieee.{binary32, fits, ofBits, toBits, nanBits}
 use Prim.Native.Nat.{ℕ}
 use Rattle.float.specs.FloatLaws.{nan-is}
 use Rattle.root.specs.Values.{no-sign, some-bits}
-use Rattle.root.proofs.Ties.{not-nan, at-infinity, at-number, at-zero, neither, no-nan}
+use Rattle.root.proofs.Ties.{above-is-number, at-infinity, at-number, at-zero, neither, no-nan}
 use Rattle.root.proofs.sqrt.Statement.{statement}
 use Rattle.root.proofs.sqrt.Tie as tie
 
@@ -14,7 +14,7 @@ held : (c : tie.Start) → T (fits binary32 (c .args .x))
 held c = subst T (sym (c .good .0 .1)) tt
 
 float-to-bits-b : tie.Need-float-to-bits-b
-float-to-bits-b c = not-nan (c .before .args .x) (c .if1 .taken)
+float-to-bits-b c = above-is-number (c .before .args .x) (c .if1 .taken)
 
 returns : tie.Need-returns
 returns c =

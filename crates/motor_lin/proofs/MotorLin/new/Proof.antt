@@ -1,5 +1,5 @@
 use Rattle.refusal.specs.Cases.{when-true, when-false}
-use Rattle.motor_lin.specs.MotorLin.{made, badMotor}
+use Rattle.motor_lin.specs.MotorLin.{newMotorLin, badMotor}
 use mathlib.Core.Path.{sym, ap, _∙_}
 use borrow.Author.Needs.{needs}
 use Rattle.motor_lin.proofs.MotorLin.new.Statement.{statement}
@@ -15,13 +15,13 @@ zero-requires : tie.Need-zero-requires
 zero-requires c κs = search needs
 
 returns : tie.Need-returns
-unfolding made
+unfolding newMotorLin
 returns c =
     let m = c .before .before .before .motor-at .ensures in
     rw (c .zero .ensures) (when-true _ _ _ (ap badMotor (sym m) ∙ sym (c .before .before .is-bad .ensures) ∙ c .before .if1 .taken))
 
 returns-2 : tie.Need-returns-2
-unfolding made
+unfolding newMotorLin
 returns-2 c =
     let m = c .before .before .motor-at .ensures in
     rw m (when-false _ _ _ (ap badMotor (sym m) ∙ sym (c .before .is-bad .ensures) ∙ c .if1 .left))

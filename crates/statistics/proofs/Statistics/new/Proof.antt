@@ -2,7 +2,7 @@ use Rattle.statistics.specs.Statistics.{fresh}
 use Rattle.refusal.specs.Cases.{when-true, when-false}
 use mathlib.Core.Path.{sym, _∙_}
 use borrow.Author.Needs.{needs}
-use Rattle.statistics.specs.Statistics.{made}
+use Rattle.statistics.specs.Statistics.{newStatistics}
 use Rattle.statistics.proofs.Statistics.new.Statement.{statement}
 use Rattle.statistics.proofs.Statistics.new.Tie as tie
 
@@ -13,11 +13,11 @@ zero-requires : tie.Need-zero-requires
 zero-requires c κs = search needs
 
 returns : tie.Need-returns
-unfolding made
+unfolding newStatistics
 returns c = rw (c .zero .ensures) (when-true _ _ _ (sym (c .before .before .bad-alpha .ensures) ∙ c .before .if1 .taken))
 
 returns-2 : tie.Need-returns-2
-unfolding made fresh
+unfolding newStatistics fresh
 returns-2 c = when-false _ _ _ (sym (c .before .bad-alpha .ensures) ∙ c .if1 .left)
 
 pub new-spec : {M : Type 1} → statement M

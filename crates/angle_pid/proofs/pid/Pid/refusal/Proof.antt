@@ -1,5 +1,5 @@
 use borrow.Author.Needs.{needs}
-use Rattle.angle_pid.specs.Pid.{badPid}
+use Rattle.angle_pid.specs.Pid.{pidRefusal}
 use Rattle.angle_pid.proofs.pid.Pid.refusal.Statement.{statement}
 use Rattle.angle_pid.proofs.pid.Pid.refusal.Tie as tie
 
@@ -10,7 +10,7 @@ parts-refusal-requires : tie.Need-parts-refusal-requires
 parts-refusal-requires c κs = search needs
 
 returns : tie.Need-returns
-unfolding badPid
+unfolding pidRefusal
 returns c = simp (c .parts-refusal .ensures, c .before .tau .ensures)
 
 pub refusal-spec : {M : Type 1} → statement M
