@@ -17,7 +17,7 @@ use Rattle.npy.specs.Text.{begins, within, isDigit, lead, endOf, decimal
 use Rattle.refusal.specs.Cases.{lt-or-le}
 use Rattle.npy.specs.TextLaws.{and-left, and-right, spelled-parts, number-size}
 use Rattle.npy.specs.Header.{magic, refusedHead, acceptedHead, accepted, textHead, textFits, textLength, headerW, widthOf, headerOf}
-use Rattle.npy.specs.HeaderLaws.{fits-parts, width-small, at-within}
+use Rattle.npy.specs.HeaderLaws.{drop-take, fits-parts, width-small, at-within}
 
 -- ---- an accepted header's parts
 
@@ -83,7 +83,7 @@ unfolding begins
 begins-take [] s m h = refl
 begins-take (x ∷ w) [] zero h = refl
 begins-take (x ∷ w) [] (suc m) h = refl
-begins-take (x ∷ w) (y ∷ s) zero h = let z : suc (length w) ≤ 0 = h in (let q : _≡_ {A = ℕ} 0 1 = omega arith in (cc))
+begins-take (x ∷ w) (y ∷ s) zero h = let z : suc (length w) ≤ 0 = h in absurd (omega arith)
 begins-take (x ∷ w) (y ∷ s) (suc m) h = ap (λ (b : Bool). cond (eqb y x) b false) (begins-take w s m (omega arith))
 
 pub leb-take : (k m : ℕ) (s : List ℕ) → k ≤ m → leb k (length (take m s)) ≡ leb k (length s)
@@ -94,10 +94,7 @@ leb-take k m s h =
     (lt-or-le (length s) k)
 
 part-take : (b n m : ℕ) (s : List ℕ) → b + n ≤ m → take n (drop b (take m s)) ≡ take n (drop b s)
-part-take zero n m s h = take-take n m s (omega arith)
-part-take (suc b) n zero s h = let q : _≡_ {A = ℕ} 0 1 = omega arith in (cc)
-part-take (suc b) n (suc m) [] h = refl
-part-take (suc b) n (suc m) (x ∷ s) h = part-take b n m s (omega arith)
+part-take b n m s h = rw (drop-take b m s) (take-take n (m - b) (drop b s) (omega arith))
 
 pub width-take : (m : ℕ) (s : List ℕ) → 8 ≤ m → widthOf (take m s) ≡ widthOf s
 unfolding widthOf
@@ -115,7 +112,7 @@ fits-take n b m s h =
     (λ (l : n ≤ 1000). rw (leb-take (b + n) m s (h l)))
     (lt-or-le 1000 n)
 
-picks : (f : Bool) (x y z : Head) → (f ≡ true → x ≡ y) → cond f x z ≡ cond f y z
+pub picks : {A : Type 0} (b : Bool) (x y z : A) → (b ≡ true → x ≡ y) → cond b x z ≡ cond b y z
 picks true x y z e = e refl
 picks false x y z e = refl
 
@@ -152,7 +149,7 @@ more-says s r h =
 
 counts-more : (b : Bool) (n m : ℕ) → suc n ≤ cond b (m + 1) 0 → (b ≡ true) × (n ≤ m)
 counts-more true n m h = (refl, omega arith)
-counts-more false n m h = let z : suc n ≤ 0 = h in let q : _≡_ {A = ℕ} 0 1 = omega arith in ((cc), omega arith)
+counts-more false n m h = let z : suc n ≤ 0 = h in absurd (omega arith)
 
 digit-small : (x : ℕ) → isDigit x ≡ true → x - 0x30 ≤ 9
 unfolding within

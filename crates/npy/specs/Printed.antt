@@ -16,7 +16,7 @@ use Rattle.npy.specs.Text.{begins, within, isKind, isDigit, isSpace, lea
 use Rattle.npy.specs.TextLaws.{and-left, and-right, lead-within, end-within, spelled-parts, number-size}
 use Rattle.npy.specs.Header.{lowFirst, magic, acceptedHead, accepted, textHead, textFits, textLength, headerW, widthOf, headerOf}
 use Rattle.npy.specs.HeaderLaws.{fits-parts}
-use Rattle.npy.specs.HeaderStart.{begins-take, accepted-parts, textOf, data-place}
+use Rattle.npy.specs.HeaderStart.{begins-take, picks, accepted-parts, textOf, data-place}
 
 -- every byte passes the test
 unfoldable pub all : (ℕ → Bool) → List ℕ → Bool
@@ -72,10 +72,6 @@ first-of t r l i h g =
 
 three-alike : (x l w : List ℕ) → length w ≡ 3 → length x ≡ 3 → begins (x ++ l) w ≡ begins x w
 three-alike x l w g n = sym (begins-take w (x ++ l) (length x) (omega arith)) ∙ ap (λ (s : List ℕ). begins s w) (take-append-seam x l)
-
-picks : {A : Type 0} (b : Bool) (x y z : A) → (b ≡ true → x ≡ y) → cond b x z ≡ cond b y z
-picks true x y z e = e refl
-picks false x y z e = refl
 
 kind-same : (x l : List ℕ) → kindOf (x ++ l) (length x) ≡ kindOf x (length x)
 unfolding kindOf

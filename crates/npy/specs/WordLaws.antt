@@ -61,10 +61,10 @@ words-done v l more left o i h = rw (drop-of-length-le v h)
 -- a line, and what is after it
 words-first : (more left : ℕ) (v w : List Float) → length v ≡ suc left → wordsOf more left (v ++ w) ≡ lineOf v ++ wordsOf more more w
 unfolding wordsOf lineOf wordOf hexWord afterWord separator toCome
-words-first more left [] w h = let q : _≡_ {A = ℕ} 0 1 = omega arith in (cc)
+words-first more left [] w h = absurd (omega arith)
 words-first more zero (x ∷ []) w h = refl
-words-first more (suc left) (x ∷ []) w h = let q : _≡_ {A = ℕ} 0 1 = omega arith in (cc)
-words-first more zero (x ∷ y ∷ v) w h = let q : _≡_ {A = ℕ} 0 1 = omega arith in (cc)
+words-first more (suc left) (x ∷ []) w h = absurd (omega arith)
+words-first more zero (x ∷ y ∷ v) w h = absurd (omega arith)
 words-first more (suc left) (x ∷ y ∷ v) w h = rw (words-first more left (y ∷ v) w (omega arith))
 
 -- one line of as many words as there are
@@ -82,7 +82,7 @@ words-line (suc more) v e h =
 words-lines : (more n : ℕ) (v : List Float) → length v ≡ n * suc more → wordsOf more more v ≡ linesOf (suc more) n v
 unfolding wordsOf linesOf
 words-lines more zero [] h = refl
-words-lines more zero (x ∷ v) h = let q : _≡_ {A = ℕ} 0 1 = omega arith in (cc)
+words-lines more zero (x ∷ v) h = absurd (omega arith)
 words-lines more (suc n) v h =
     let a : suc more ≤ length v = rw h (omega arith) in
     let b : length (drop (suc more) v) ≡ n * suc more = length-drop (suc more) v ∙ omega arith in
@@ -91,7 +91,7 @@ words-lines more (suc n) v h =
 
 -- rows of k
 pub words-rows : (k : ℕ) (v : List Float) → 1 ≤ k → length v % k ≡ 0 → wordsOf (k - 1) (k - 1) v ≡ linesOf k (length v / k) v
-words-rows zero v h e = let q : _≡_ {A = ℕ} 0 1 = omega arith in (cc)
+words-rows zero v h e = absurd (omega arith)
 words-rows (suc more) v h e =
     let p : suc more - 1 ≡ more = omega arith in
     let q : length v ≡ length v / suc more * suc more = omega (arith, div-add-mod' (length v) (suc more)) in
@@ -122,7 +122,7 @@ unfolding lineEnd lineOf
 line-empty at len [] l h =
     let p : at + 9 * 0 ≡ at = omega arith in
     (rw p (cond-same (lineFits at 0 len) at), cond-same (lineFits at 0 len) l)
-line-empty at len (x ∷ v) l h = let q : _≡_ {A = ℕ} 0 1 = omega arith in (cc, cc)
+line-empty at len (x ∷ v) l h = absurd (omega arith)
 
 pub lines-room : (at k n len : ℕ) (b : Bool) → b ≡ linesFit at k n len → b ≡ true → (1 ≤ k) × (n % k ≡ 0) × (at + 9 * n ≤ len)
 unfolding linesFit
@@ -143,15 +143,14 @@ unfolding lineOf wordOf hexWord
 line-length [] = refl
 line-length (x ∷ v) = let h = line-length v in omega arith
 
--- a line's columns: the word of value i stands at 9 · i
-pub line-column : (v : List Float) (i : ℕ) → i < length v → take 8 (drop (9 * i) (lineOf v)) ≡ wordOf (getD v i nan)
+-- a line's columns: the word of value i stands at 9 · i, whatever follows the line
+pub line-column : (v : List Float) (i : ℕ) (rest : List ℕ) → i < length v → take 8 (drop (9 * i) (lineOf v ++ rest)) ≡ wordOf (getD v i nan)
 unfolding lineOf wordOf hexWord
-line-column [] i h = let q : _≡_ {A = ℕ} 0 1 = omega arith in (cc)
-line-column (x ∷ v) zero h = refl
-line-column (x ∷ v) (suc i) h =
-    let l : i < length v = omega arith in
-    let e : 9 * suc i ≡ 9 + 9 * i = omega arith in
-    rw (e, ← drop-drop (9 * i) 9) (line-column v i l)
+line-column [] i rest h = absurd (omega arith)
+line-column (x ∷ v) zero rest h = refl
+line-column (x ∷ v) (suc i) rest h =
+    let e : 9 * suc i ≡ suc (suc (suc (suc (suc (suc (suc (suc (suc (9 * i))))))))) = omega arith in
+    rw e (line-column v i rest (omega arith))
 
 -- 7fc00000
 pub nan-word : wordOf nan ≡ 55 ∷ 102 ∷ 99 ∷ 48 ∷ 48 ∷ 48 ∷ 48 ∷ 48 ∷ []
