@@ -160,7 +160,7 @@ pub record Framed (w : ℕ) (l t : List ℕ) : Type 0 where
   pub bytes : length l ≡ w
   pub counts : lowFirst l ≡ length t
   pub short : (1 ≤ length t) × (length t ≤ 1000)
-  pub even : (8 + w + length t) % 16 ≡ 0
+  pub sixteens : (8 + w + length t) % 16 ≡ 0
 
 eight-more : (n : ℕ) → leb 8 (suc (suc (suc (suc (suc (suc (suc (suc n)))))))) ≡ true
 eight-more n = le-leb 8 (suc (suc (suc (suc (suc (suc (suc (suc n)))))))) (omega arith)
@@ -195,7 +195,7 @@ module _ (w : ℕ) (l t rest : List ℕ) (f : Framed w l t) where
   unfolding textFits
   fits-there =
       let a : 8 + w + length t ≤ length S = omega (arith, long) in
-      simp (le-leb _ _ (f .short .0), le-leb _ _ (f .short .1), le-leb _ _ a, eq-eqb _ _ (f .even))
+      simp (le-leb _ _ (f .short .0), le-leb _ _ (f .short .1), le-leb _ _ a, eq-eqb _ _ (f .sixteens))
 
   -- a header so framed is its text's, and the data begin after it, whatever they are
   pub framed-read : headerOf S ≡ textHead t (8 + w + length t)
@@ -393,7 +393,7 @@ accepted-framed s h =
         bytes = length-take-le _ _ w;
         counts = sym tl;
         short = rw tl (f .0, f .1);
-        even = rw tl (f .3);
+        sixteens = rw tl (f .3);
       },
       framed-start s (a .known) ∙ ap (λ (m : List ℕ). magic ++ (widthOf s / 2 ∷ 0 ∷ m)) (e8 ∙ ap (λ (m : List ℕ). take (widthOf s) (drop 8 s) ++ m) et),
     )

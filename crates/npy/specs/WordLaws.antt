@@ -6,7 +6,7 @@ use Prim.Native.Nat.{ℕ, zero, suc, _+_, _-_, _*_, _/_, _%_, _^_, _≤_, _<_}
 use native.Mathlib.Numerals.{add-one}
 use native.Mathlib.Omega.{arith}
 use lib.ListN.{length, getD, set, take, drop, drop-of-length-le, length-drop, take-append-drop}
-use lib.Seq.{drop-cons, drop-drop, length-take-le, sets}
+use lib.Seq.{drop-cons, length-take-le, sets}
 use native.Mathlib.Nat.{div-add-mod'}
 use lib.Dec.{eqb, ltb, leb}
 use lib.Ieee as Ieee

@@ -3,7 +3,7 @@ ghost use mathlib.Core.Path.{_≡_};
 ghost use Prim.Native.Nat.{_+_, _-_, _≤_, _<_, _^_};
 ghost use mathlib.Core.Bool.{true, false, _&&_};
 ghost use lib.ListN.{length, take, drop, getD};
-ghost use Rattle.npy.specs.Text.{begins, within, lead, endOf, decimal, isNumber, kindOf, placesOf, kindFits, frontSpelled, shapeSpelled, endSpelled, spelled};
+ghost use Rattle.npy.specs.Text.{begins, within, endOf, decimal, isNumber, kindOf, placesOf, kindFits, frontSpelled, shapeSpelled, endSpelled, spelled};
 ghost use Rattle.npy.specs.Header.{lowFirst, cellWidth, refusedHead, textHead, textFits, headerW, widthOf, headerOf, dataOf, placeIn};
 use refusal::Refusal;
 

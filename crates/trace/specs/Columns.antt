@@ -15,7 +15,8 @@ use Rattle.npy.specs.declared.reader.Kind.{Kind}
 use Rattle.npy.specs.declared.reader.Kind.the-variants.{F4}
 use Rattle.npy.specs.Header.{cellWidth, headerOf}
 use Rattle.npy.specs.Cell.{cellOf, cellsOf}
-use Rattle.npy.specs.Word.{hexWord, wordOf, lineOf}
+use Rattle.npy.specs.Word.{wordOf}
+use Rattle.npy.specs.WordLaws.{line-column}
 use Rattle.bank.specs.declared.lane.Op.{Op}
 use Rattle.bank.specs.declared.lane.Op.the-variants.{Open, Update}
 use Rattle.bank.specs.declared.lane.SlewLimit.the-variants.{Off}
@@ -225,14 +226,6 @@ row-lies c s L σ h l lies =
 
 -- ---- the text
 
-pub line-word : (i : ℕ) (xs : List Float) (rest : List ℕ) → i < length xs → take 8 (drop (9 * i) (lineOf xs ++ rest)) ≡ wordOf (getD xs i nan)
-unfolding lineOf wordOf hexWord
-line-word i [] rest h = absurd (omega arith)
-line-word zero (x ∷ xs) rest h = refl
-line-word (suc i) (x ∷ xs) rest h =
-    let e : 9 * suc i ≡ suc (suc (suc (suc (suc (suc (suc (suc (suc (9 * i))))))))) = omega arith in
-    rw e (line-word i xs rest (omega arith))
-
 -- the updates of lane L in n rows of k lanes
 unfoldable pub laneUpdates : Kind → ℕ → ℕ → ℕ → List ℕ → List Op
 laneUpdates kind k L n s = each (laneUpdate kind L) (k * 3 * cellWidth kind) n s
@@ -245,7 +238,7 @@ rows-word r zero c s L σ rest h a l lies = absurd (omega arith)
 rows-word zero (suc n) c s L σ rest h a l lies =
     let len : length (valuesOf (run (c .bank) (rowCalls c s))) ≡ c .lanes = values-length (c .bank) (rowCalls c s) ∙ row-count c s in
     rw (zero-mul (9 * c .lanes), zero-add (9 * L), append-assoc)
-    (line-word L (valuesOf (run (c .bank) (rowCalls c s))) _ (omega arith) ∙ ap wordOf (row-value c s L σ a l lies))
+    (line-column (valuesOf (run (c .bank) (rowCalls c s))) L _ (omega arith) ∙ ap wordOf (row-value c s L σ a l lies))
 rows-word (suc r) (suc n) c s L σ rest h a l lies =
     let e : suc r * (9 * c .lanes) + 9 * L ≡ length (rowLine c s) + (r * (9 * c .lanes) + 9 * L) = omega (arith, suc-mul r (9 * c .lanes), row-length c s) in
     rw (e, append-assoc, drop-append-add)

@@ -5,37 +5,26 @@ use mathlib.Core.List.{List, [], _∷_, _++_, append-assoc, append-nil}
 use mathlib.Core.Bool.{Bool, true, false, cond, _&&_}
 use mathlib.Core.Logic.{_⊎_, inl, ⊎-elim}
 use Prim.Native.Nat.{ℕ, zero, suc, _+_, _-_, _*_, _≤_, _<_, min}
-use native.Mathlib.Nat.{sub-zero, zero-sub, suc-sub-suc, mul-comm}
 use native.Mathlib.Omega.{arith}
 use lib.Dec.{leb, eqb}
 use lib.ListN.{length, take, drop, length-drop, length-take, length-append}
-use lib.Seq.{take-nil, take-append-seam, drop-append-le}
+use lib.Seq.{take-append-seam, drop-append-le}
 use borrow.Author.Tests.{leb-true}
 use Rattle.refusal.specs.declared.Refusal.{Refusal}
 use Rattle.refusal.specs.declared.Refusal.the-variants as Refusal
 use Rattle.npy.specs.declared.reader.Kind.{Kind}
 use Rattle.npy.specs.declared.reader.Kind.the-variants.{F4}
 use Rattle.npy.specs.declared.reader.Head.{Head}
-use Rattle.npy.specs.HeaderLaws.{at-within}
+use Rattle.npy.specs.HeaderLaws.{drop-take, at-within}
 use Rattle.npy.specs.HeaderStart.{leb-take, window-decides}
-use Rattle.npy.specs.CellLaws.{cells-start-only}
-use Rattle.npy.specs.Header.{cellWidth, headerOf, accepted}
-use Rattle.npy.specs.Cell.{cellsOf}
+use Rattle.npy.specs.CellLaws.{cells-take}
+use Rattle.npy.specs.Header.{headerOf, accepted}
 use Rattle.bank.specs.declared.Bank.{Bank}
 use Rattle.trace.specs.declared.course.Course.{Course}
 use Rattle.trace.specs.Trace.{refused, isF4, settingsBytes, settingsRefusal, openedBank, refusedStart, traceStart, startOf, replayOf, refusedLine, endText, rowWidth, rowCalls, rowLine, rowOn, nextRows, onRows, courseText}
 use Rattle.trace.specs.TraceLaws.{rows-on, width-on, rows-cut, end-rest, Spent, spent-text, whole-spent, wholeRows, whole-is, on-width, settings-parts, secondAt, secondHead, Started, started, some-bytes}
 
 -- ---- rows are read from their own bytes alone
-
-pub drop-take : {A : Type 0} (i n : ℕ) (l : List A) → drop i (take n l) ≡ take (n - i) (drop i l)
-drop-take zero n l = ap (λ (k : ℕ). take k l) (sym (sub-zero n))
-drop-take (suc i) zero l = ap (λ (k : ℕ). take k (drop (suc i) l)) (sym (zero-sub (suc i)))
-drop-take (suc i) (suc n) [] = sym (take-nil (suc n - suc i))
-drop-take (suc i) (suc n) (x ∷ xs) = drop-take i n xs ∙ ap (λ (k : ℕ). take k (drop i xs)) (sym (suc-sub-suc n i))
-
-pub cells-take : (kind : Kind) (m n : ℕ) (s : List ℕ) → m * cellWidth kind ≤ n → cellsOf kind m (take n s) ≡ cellsOf kind m s
-cells-take kind m n s h = cells-start-only kind m n s (rw (mul-comm (cellWidth kind) m) h)
 
 calls-take : (c : Course) (n : ℕ) (s : List ℕ) → rowWidth c ≤ n → rowCalls c (take n s) ≡ rowCalls c s
 unfolding rowCalls rowWidth
@@ -132,8 +121,7 @@ at-once-joined (bytes ∷ more) c kept = ap (λ (l : List ℕ). bytes ++ l) (at-
 
 -- ---- the start: 2,184 bytes decide it, two headers (of at most 1,012 bytes each) and the settings of eight lanes
 
--- so many bytes are there, or not, all the same
--- so the data of an array begin there at the latest
+-- the data of an array begin at byte 1,012 at the latest
 pub at-small : (s : List ℕ) → headerOf s .at ≤ 1012
 at-small s =
     let h : headerOf (take 1012 s) .at ≤ min 1012 (length s) = rw length-take at (at-within (take 1012 s)) in

@@ -160,7 +160,7 @@ fn trace_start(k: usize, bank: Bank, at: usize, bytes: &[u8]) -> Begun
     }
 }
 
-// What the start of a file says. A window is enough that holds both headers and the settings: some 2,200 bytes, or the whole file.
+// What the start of a file says. A window is enough that holds both headers and the settings: 2,184 bytes at most, or the whole file.
 pub fn start(bytes: &[u8]) -> Begun
     ensures { λ r. ⌜ r ≡ startOf (now (bytes .entry)) ⌝ }
 {
