@@ -4,7 +4,7 @@ use mathlib.Core.List.{List, _∷_}
 use mathlib.Core.Bool.{Bool, true, false, cond, _&&_, true≢false}
 use Prim.Native.Nat.{ℕ, suc, _+_, _-_, _*_, _≤_, _<_}
 use native.Mathlib.Omega.{arith}
-use borrow.Author.Tests.{ltb-false, leb-true, eqb-false, le-leb, lt-leb, eq-eqb, ne-eqb}
+use borrow.Author.Tests.{leb-true, le-leb, lt-leb, eq-eqb, ne-eqb}
 use lib.Dec.{leb, eqb}
 use lib.Ieee.{Float}
 use lib.ListN.{length, take, drop, length-drop}
@@ -15,7 +15,7 @@ use Rattle.refusal.specs.Refusal.{numberOf}
 use Rattle.npy.specs.declared.reader.Kind.{Kind}
 use Rattle.npy.specs.declared.reader.Kind.the-variants.{F4}
 use Rattle.npy.specs.declared.reader.Head.{Head}
-use Rattle.npy.specs.Header.{accepted, headerOf}
+use Rattle.npy.specs.Header.{headerOf}
 use Rattle.npy.specs.HeaderLaws.{to-end, at-within}
 use Rattle.npy.specs.Cell.{cellOf, cellsOf}
 use Rattle.bank.specs.declared.lane.Op.the-variants.{Open}
@@ -25,6 +25,7 @@ use Rattle.bank.specs.Bank.{freshBank, bankStep}
 use Rattle.bank.specs.Runs.{after}
 use Rattle.trace.specs.declared.course.Begun.{Begun}
 use Rattle.trace.specs.Trace.{refused, isF4, isCell, settingsRefusal, openCalls, openedBank, traceRefusal, refusedStart, traceStart, startOf}
+use Rattle.trace.specs.TraceLaws.{Settings, settings-parts}
 
 -- ---- the settings, test by test
 
@@ -53,12 +54,6 @@ module _ (h : Head) (len : ℕ) where
       → u ≡ (leb 1 (h .rows) && (leb (h .rows) 8 && eqb (h .cols) 5)) → u ≡ true → h .at ≤ len → h .rows * 20 ≤ len - h .at → Refusal.None ≡ settingsRefusal h len
   settings-none n t u e g et h0 eu h1 a b = sym (settings-tests n t u e g et eu ∙ simp (h0, h1, le-leb (h .at + h .rows * 20) len (omega arith)))
 
--- where nothing is refused, every test held
-pub record Settled (h : Head) (len : ℕ) : Type 0 where
-  pub some : 1 ≤ h .rows
-  pub few : h .rows ≤ 8
-  pub there : h .at + h .rows * 20 ≤ len
-
 pub rows-shape : (rows cols : ℕ) (u : Bool) → u ≡ (leb 1 rows && (leb rows 8 && eqb cols 5)) → u ≡ true → (1 ≤ rows) × (rows ≤ 8)
 rows-shape rows cols u e h = go (leb 1 rows) (leb rows 8) refl refl (sym e ∙ h)
   where
@@ -66,18 +61,6 @@ rows-shape rows cols u e h = go (leb 1 rows) (leb rows 8) refl refl (sym e ∙ h
     go true true ep eq g = (leb-true _ _ ep, leb-true _ _ eq)
     go true false ep eq g = absurd (true≢false (sym g))
     go false q ep eq g = absurd (true≢false (sym g))
-
-pub settled : (h : Head) (len : ℕ) → refused (settingsRefusal h len) ≡ false → Settled h len
-unfolding settingsRefusal
-settled h len = go (accepted h) (isF4 (h .kind)) (leb 1 (h .rows) && (leb (h .rows) 8 && eqb (h .cols) 5)) (leb (h .at + h .rows * 20) len) refl refl refl
-  where
-    go : (a t u v : Bool) → accepted h ≡ a → (leb 1 (h .rows) && (leb (h .rows) 8 && eqb (h .cols) 5)) ≡ u → leb (h .at + h .rows * 20) len ≡ v
-        → refused (cond a (cond t (cond u (cond v Refusal.None Refusal.Cut) Refusal.Shape) Refusal.Kind) (h .refusal)) ≡ false → Settled h len
-    go true true true true en eu ev g = let p = rows-shape (h .rows) (h .cols) true (sym eu) refl in record { some = p .0; few = p .1; there = leb-true _ _ ev }
-    go true true true false en eu ev g = absurd (true≢false g)
-    go true true false v en eu ev g = absurd (true≢false g)
-    go true false u v en eu ev g = absurd (true≢false g)
-    go false t u v en eu ev g = absurd (eqb-false (numberOf (h .refusal)) 0 en (omega (arith, ltb-false 0 (numberOf (h .refusal)) g)))
 
 -- ---- the trace's header, test by test
 
@@ -161,12 +144,12 @@ pub start-refused : (s : List ℕ) (h : Head) (why : Refusal) (t : Bool) (r : Be
 unfolding startOf
 start-refused s h why t r eh ew et g er = er ∙ rw (← eh, ← ew, ← et, g)
 
-pub started : (s : List ℕ) (h : Head) (why : Refusal) (t : Bool) (b : Bank) (r : Begun) → h ≡ headerOf s → why ≡ settingsRefusal h (length s) → t ≡ refused why → t ≡ false
+pub start-given : (s : List ℕ) (h : Head) (why : Refusal) (t : Bool) (b : Bank) (r : Begun) → h ≡ headerOf s → why ≡ settingsRefusal h (length s) → t ≡ refused why → t ≡ false
     → b ≡ openedBank (h .rows) (take (length s - h .at) (drop (h .at) s)) → r ≡ traceStart (h .rows) b (h .at + h .rows * 20) s → r ≡ startOf s
 unfolding startOf
-started s h why t b r eh ew et g eb er =
+start-given s h why t b r eh ew et g eb er =
     let eb' : b ≡ openedBank (h .rows) (drop (h .at) s) = rw (to-end s (h .at)) at eb in
     er ∙ rw (← eh, ← ew, ← et, g, eb')
 
-pub settled-from : (s : List ℕ) (h : Head) (why : Refusal) (t : Bool) → why ≡ settingsRefusal h (length s) → t ≡ refused why → t ≡ false → Settled h (length s)
-settled-from s h why t ew et g = settled h (length s) (rw (← ew, ← et) g)
+pub settings-from : (s : List ℕ) (h : Head) (why : Refusal) (t : Bool) → why ≡ settingsRefusal h (length s) → t ≡ refused why → t ≡ false → Settings h (length s)
+settings-from s h why t ew et g = settings-parts h (length s) (rw (← ew, ← et) g)

@@ -12,7 +12,7 @@ use Rattle.refusal.specs.declared.Refusal.the-variants as Refusal
 use Rattle.refusal.specs.declared.Refusal.the-variants.{None, Range, Tau, Slew, Alpha, Points, Steps, Motor, Lane, Closed, Open, Magic, Header, Kind, Shape, Cut, Rest, RowSum, Window}
 use Rattle.refusal.specs.Refusal.{numberOf}
 use Rattle.trace.specs.declared.course.Course.{Course}
-use Rattle.trace.specs.Trace.{digits, refusedLine, endText}
+use Rattle.trace.specs.Trace.{digits, refusedWord, refusedLine, endText}
 use Rattle.trace.specs.TraceLaws as T
 use Rattle.trace.specs.Slices.{wrote, wroteCount}
 
@@ -60,32 +60,28 @@ number-small Rest = omega arith
 number-small RowSum = omega arith
 number-small Window = omega arith
 
--- `refused `
-abbrev pub head : List ℕ
-head = 114 ∷ 101 ∷ 102 ∷ 117 ∷ 115 ∷ 101 ∷ 100 ∷ 32 ∷ []
-
-pub one-digit : (why : Refusal) (n : ℕ) → n ≡ numberOf why → n < 10 → refusedLine why ≡ head ++ ((n + 48) ∷ 10 ∷ [])
+pub one-digit : (why : Refusal) (n : ℕ) → n ≡ numberOf why → n < 10 → refusedLine why ≡ refusedWord ++ ((n + 48) ∷ 10 ∷ [])
 unfolding refusedLine digits
 one-digit why n e h = rw (← e, lt-ltb n 10 h)
 
-pub two-digits : (why : Refusal) (n : ℕ) → n ≡ numberOf why → 10 ≤ n → refusedLine why ≡ head ++ ((n / 10 + 48) ∷ (n % 10 + 48) ∷ 10 ∷ [])
+pub two-digits : (why : Refusal) (n : ℕ) → n ≡ numberOf why → 10 ≤ n → refusedLine why ≡ refusedWord ++ ((n / 10 + 48) ∷ (n % 10 + 48) ∷ 10 ∷ [])
 unfolding refusedLine digits
 two-digits why n e h = rw (← e, le-ltb n 10 h)
 
 module _ (why : Refusal) (n : ℕ) (e : n ≡ numberOf why) (out : List ℕ) where
   pub one-short : n < 10 → length out < 10 → (0 ≡ wroteCount out (refusedLine why)) × (out ≡ wrote out (refusedLine why))
-  one-short h g = rw (one-digit why n e h) (wrote-none out (head ++ ((n + 48) ∷ 10 ∷ [])) g)
+  one-short h g = rw (one-digit why n e h) (wrote-none out (refusedWord ++ ((n + 48) ∷ 10 ∷ [])) g)
 
   pub two-short : 10 ≤ n → length out < 11 → (0 ≡ wroteCount out (refusedLine why)) × (out ≡ wrote out (refusedLine why))
-  two-short h g = rw (two-digits why n e h) (wrote-none out (head ++ ((n / 10 + 48) ∷ (n % 10 + 48) ∷ 10 ∷ [])) g)
+  two-short h g = rw (two-digits why n e h) (wrote-none out (refusedWord ++ ((n / 10 + 48) ∷ (n % 10 + 48) ∷ 10 ∷ [])) g)
 
-  pub one-whole : (out′ : List ℕ) → n < 10 → 10 ≤ length out → out′ ≡ sets out 0 head
+  pub one-whole : (out′ : List ℕ) → n < 10 → 10 ≤ length out → out′ ≡ sets out 0 refusedWord
       → (10 ≡ wroteCount out (refusedLine why)) × (set (set out′ 8 (n + 48)) 9 10 ≡ wrote out (refusedLine why))
-  one-whole out′ h g e′ = rw (one-digit why n e h) (wrote-all out (head ++ ((n + 48) ∷ 10 ∷ [])) 10 _ refl g (rw e′))
+  one-whole out′ h g e′ = rw (one-digit why n e h) (wrote-all out (refusedWord ++ ((n + 48) ∷ 10 ∷ [])) 10 _ refl g (rw e′))
 
-  pub two-whole : (out′ : List ℕ) → 10 ≤ n → 11 ≤ length out → out′ ≡ sets out 0 head
+  pub two-whole : (out′ : List ℕ) → 10 ≤ n → 11 ≤ length out → out′ ≡ sets out 0 refusedWord
       → (11 ≡ wroteCount out (refusedLine why)) × (set (set (set out′ 8 (n / 10 + 48)) 9 (n % 10 + 48)) 10 10 ≡ wrote out (refusedLine why))
-  two-whole out′ h g e′ = rw (two-digits why n e h) (wrote-all out (head ++ ((n / 10 + 48) ∷ (n % 10 + 48) ∷ 10 ∷ [])) 11 _ refl g (rw e′))
+  two-whole out′ h g e′ = rw (two-digits why n e h) (wrote-all out (refusedWord ++ ((n / 10 + 48) ∷ (n % 10 + 48) ∷ 10 ∷ [])) 11 _ refl g (rw e′))
 
 -- ---- after the last row
 

@@ -2,7 +2,7 @@
 -- long as every other. Assumes nothing.
 use mathlib.Core.Path.{_≡_, refl, sym, ap, _∙_}
 use mathlib.Core.List.{List, [], _∷_, _++_, append-assoc, append-nil}
-use mathlib.Core.Bool.{Bool, true, false, cond, _&&_}
+use mathlib.Core.Bool.{Bool, true, false, cond, _&&_, true≢false}
 use mathlib.Core.Logic.{_⊎_, inl, inr, ⊎-elim}
 use Prim.Native.Nat.{ℕ, zero, suc, _+_, _-_, _*_, _/_, _≤_, _<_}
 use native.Mathlib.Nat.{suc-mul, zero-mul, add-comm, sub-zero, div-mul-le-self, lt-div-mul-add, le-trans, mul-le-mul-right}
@@ -19,6 +19,7 @@ use Rattle.npy.specs.TextLaws.{and-left, and-right}
 use Rattle.npy.specs.declared.reader.Kind.{Kind}
 use Rattle.npy.specs.declared.reader.Kind.the-variants.{F4, I2, Other}
 use Rattle.npy.specs.Header.{cellWidth, accepted, headerOf}
+use Rattle.npy.specs.HeaderLaws.{at-within}
 use Rattle.npy.specs.Cell.{cellOf, cellsOf, least}
 use Rattle.npy.specs.CellLaws.{cells-length}
 use Rattle.npy.specs.WordLaws.{line-length}
@@ -190,9 +191,6 @@ rows-length (suc n) c s =
 
 -- ---- the start
 
-not-both : true ≡ false → ⊥
-not-both e = let z : _≡_ {A = ℕ} 0 1 = cc in omega arith
-
 -- a refusal that is given only where a test fails: it is not given, so the test holds, and no later refusal is given either
 not-given : (t : Bool) (x y : Refusal) → (t ≡ false → refused y ≡ true) → refused (cond t x y) ≡ false → (t ≡ true) × (refused x ≡ false)
 not-given true x y h e = (refl, e)
@@ -262,8 +260,8 @@ started s = first (refused (settingsRefusal (headerOf s) (length s))) refl (refu
   where
     first : (t : Bool) → refused (settingsRefusal (headerOf s) (length s)) ≡ t → (u : Bool) → refused (traceRefusal (headerOf s .rows) (secondHead s)) ≡ u
         → refused (startOf s .refusal) ≡ false → Started s
-    first true e u f h = absurd (not-both (simp e at h))
-    first false e true f h = absurd (not-both (simp (e, f) at h))
+    first true e u f h = absurd (true≢false (simp e at h))
+    first false e true f h = absurd (true≢false (simp (e, f) at h))
     first false e false f h =
         record {
           settings = settings-parts (headerOf s) (length s) e;
@@ -275,6 +273,12 @@ started s = first (refused (settingsRefusal (headerOf s) (length s))) refl (refu
           at = simp (e, f);
         }
 
+-- the rows begin within the file
+pub start-within : (s : List ℕ) → Started s → startOf s .at ≤ length s
+start-within s g =
+    let a : secondHead s .at ≤ length s - secondAt s = rw length-drop at (at-within (drop (secondAt s) s)) in
+    omega (arith, g .at, g .settings .fits)
+
 -- a row of an accepted trace has bytes
 pub some-bytes : (s : List ℕ) → Started s → 0 < rowWidth (startOf s .course)
 unfolding rowWidth
@@ -283,7 +287,7 @@ some-bytes s g = rw (g .kind, g .lanes) (go (secondHead s .kind) (g .trace .1))
     go : (kind : Kind) → isCell kind ≡ true → 0 < firstHead s .rows * 3 * cellWidth kind
     go F4 e = omega (arith, g .settings .some)
     go I2 e = omega (arith, g .settings .some)
-    go Other e = absurd (not-both (sym e))
+    go Other e = absurd (true≢false (sym e))
 
 -- the bytes of its rows, and what comes after them
 abbrev pub rowsOf : List ℕ → List ℕ

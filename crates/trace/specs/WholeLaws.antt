@@ -1,16 +1,15 @@
 -- A whole file: how long its text is, what it ends with, and that it is the text of its rows and then of its refusal. Assumes nothing.
 use mathlib.Core.Path.{_≡_, refl, sym, ap, _∙_, subst}
 use mathlib.Core.List.{List, [], _∷_, _++_, append-nil}
-use mathlib.Core.Bool.{Bool, true, false, cond, not, _&&_, true≢false}
+use mathlib.Core.Bool.{Bool, true, false, cond, _&&_}
 use Prim.Native.Nat.{ℕ, zero, suc, _+_, _-_, _*_, _/_, _≤_, _<_}
 use mathlib.Core.Logic.{⊎-elim, inl, inr}
 use Rattle.refusal.specs.Cases.{lt-or-le}
 use Rattle.npy.specs.HeaderStart.{shape-small}
-use native.Mathlib.Nat.{suc-mul, zero-mul, mul-assoc, mul-comm, mul-le-mul-right, le-trans, lt-div-mul-add, div-mul-le-self, div-eq-sub-div, mul-le-mul}
+use native.Mathlib.Nat.{suc-mul, zero-mul, mul-assoc, mul-comm, div-eq-sub-div, mul-le-mul}
 use native.Mathlib.Omega.{arith}
-use borrow.Author.Tests.{ltb-true, ltb-false, leb-true, leb-false, lt-ltb, le-ltb, le-leb, lt-leb, eqb-false}
-use lib.Dec.{ltb, leb, eqb}
-use lib.Ieee.{Float}
+use borrow.Author.Tests.{ltb-true, ltb-false, leb-true, leb-false, lt-ltb, le-ltb, le-leb, lt-leb}
+use lib.Dec.{ltb, leb}
 use lib.ListN.{length, set, take, drop, length-append, length-drop, take-append-drop, drop-of-length-le}
 use lib.Seq.{sets, length-sets, drop-drop, drop-set-add, take-set-le}
 use Rattle.refusal.specs.declared.Refusal.{Refusal}
@@ -20,18 +19,15 @@ use Rattle.npy.specs.declared.reader.Kind.{Kind}
 use Rattle.npy.specs.declared.reader.Head.{Head}
 use Rattle.npy.specs.TextLaws.{and-left, and-right}
 use Rattle.npy.specs.Header.{cellWidth, accepted, refusedHead, headerOf}
-use Rattle.npy.specs.HeaderLaws.{at-within, to-end, refused-is}
+use Rattle.npy.specs.HeaderLaws.{to-end, refused-is}
 use Rattle.npy.specs.Cell.{least}
-use Rattle.npy.specs.CellLaws.{least-left, least-right}
-use Rattle.bank.specs.declared.Bank.{Bank}
 use Rattle.trace.specs.declared.course.Course.{Course}
 use Rattle.trace.specs.declared.course.Begun.{Begun}
 use Rattle.trace.specs.declared.course.Went.{Went}
-use Rattle.trace.specs.Trace.{refused, isCell, settingsRefusal, traceRefusal, refusedStart, traceStart, startOf, openedBank, rowWidth, rowLine, rowOn, nextRows, onRows, refusedLine, restText, endText, courseText, replayOf}
-use Rattle.trace.specs.Slices.{laned, rowsFor, rowsIn, rowCells, rowValues, wentOf, wrote, wroteCount, rowsRefusal, courseRefusal, replayRefusal, reasonText, replayedOf}
-use Rattle.trace.specs.CodeLaws.{settled}
+use Rattle.trace.specs.Trace.{refused, isCell, startOf, rowWidth, rowLine, rowOn, nextRows, onRows, refusedLine, restText, endText, courseText, replayOf}
+use Rattle.trace.specs.Slices.{laned, rowsFor, rowsIn, wentOf, wrote, wroteCount, rowsRefusal, courseRefusal, replayRefusal, reasonText, replayedOf}
 use Rattle.trace.specs.EndLaws.{one-digit, two-digits}
-use Rattle.trace.specs.TraceLaws.{row-length, rows-length, spent-text, row-cut, rows-cut, on-left, on-kind, on-lanes, on-width}
+use Rattle.trace.specs.TraceLaws.{Whole, whole-rows, wholeRows, whole-is, firstHead, secondAt, secondHead, started, start-within, row-length, rows-length, spent-text, row-cut, rows-cut, on-left, on-kind, on-lanes, on-width}
 use Rattle.trace.specs.RowsLaws.{room, sets-append, laned-parts, width-range}
 
 -- a header names fewer than 10⁹ rows; refused, none
@@ -50,50 +46,18 @@ pub record Ready (b : Begun) (len : ℕ) : Type 0 where
   pub few : b .course .left < 1000000000
   pub there : b .at ≤ len
 
-trace-cells : (k : ℕ) (h : Head) → refused (traceRefusal k h) ≡ false → isCell (h .kind) ≡ true
-unfolding traceRefusal
-trace-cells k h = go (accepted h) (isCell (h .kind)) refl
-  where
-    go : (a t : Bool) → accepted h ≡ a → refused (cond a (cond t (cond (eqb (h .cols) (k * 3)) Refusal.None Refusal.Shape) Refusal.Kind) (h .refusal)) ≡ false → t ≡ true
-    go true true e g = refl
-    go true false e g = absurd (true≢false g)
-    go false t e g = absurd (eqb-false (numberOf (h .refusal)) 0 e (omega (arith, ltb-false 0 (numberOf (h .refusal)) g)))
-
 lanes-are : (kind : Kind) (k : ℕ) → 1 ≤ k → k ≤ 8 → isCell kind ≡ true → laned kind k ≡ true
 unfolding laned
 lanes-are kind k a b h = rw (le-leb 1 k a, le-leb k 8 b) h
 
-trace-ready : (k at : ℕ) (b : Bank) (s : List ℕ) → 1 ≤ k → k ≤ 8 → at ≤ length s → refused (traceStart k b at s .refusal) ≡ false → Ready (traceStart k b at s) (length s)
-unfolding traceStart refusedStart
-trace-ready k at b s p q r = go (refused (traceRefusal k (headerOf (drop at s)))) refl
-  where
-    h : Head
-    h = headerOf (drop at s)
-
-    go : (t : Bool) → refused (traceRefusal k h) ≡ t
-        → refused (cond t (refusedStart (traceRefusal k h)) (record { refusal = Refusal.None; course = record { kind = h .kind; lanes = k; left = h .rows; bank = b }; at = at + h .at }) .refusal) ≡ false
-        → Ready (cond t (refusedStart (traceRefusal k h)) (record { refusal = Refusal.None; course = record { kind = h .kind; lanes = k; left = h .rows; bank = b }; at = at + h .at })) (length s)
-    go true e g = absurd (true≢false (sym e ∙ g))
-    go false e g =
-        let a : h .at ≤ length s - at = subst (λ (n : ℕ). headerOf (drop at s) .at ≤ n) (length-drop at s) (at-within (drop at s)) in
-        record { lanes = lanes-are (h .kind) k p q (trace-cells k h e); few = few-rows (drop at s); there = omega arith }
-
 pub ready : (s : List ℕ) → refused (startOf s .refusal) ≡ false → Ready (startOf s) (length s)
-unfolding startOf refusedStart
-ready s = go (refused (settingsRefusal h (length s))) refl
-  where
-    h : Head
-    h = headerOf s
-
-    next : Begun
-    next = traceStart (h .rows) (openedBank (h .rows) (drop (h .at) s)) (h .at + h .rows * 20) s
-
-    go : (t : Bool) → refused (settingsRefusal h (length s)) ≡ t → refused (cond t (refusedStart (settingsRefusal h (length s))) next .refusal) ≡ false
-        → Ready (cond t (refusedStart (settingsRefusal h (length s))) next) (length s)
-    go true e g = absurd (true≢false (sym e ∙ g))
-    go false e g =
-        let p = settled h (length s) e in
-        trace-ready (h .rows) (h .at + h .rows * 20) (openedBank (h .rows) (drop (h .at) s)) s (p .some) (p .few) (p .there) g
+ready s e =
+    let g = started s e in
+    record {
+      lanes = rw (g .kind, g .lanes) (lanes-are (secondHead s .kind) (firstHead s .rows) (g .settings .some) (g .settings .few) (g .trace .1));
+      few = rw (g .left) (few-rows (drop (secondAt s) s));
+      there = start-within s g;
+    }
 
 -- ---- lengths
 
@@ -141,55 +105,28 @@ refusal-cut (suc n) (suc l) w len h g =
 
 -- ---- the whole rows that are there
 
-pub record Counted (left w len n : ℕ) : Type 0 where
-  pub to-come : n ≤ left
-  pub bytes : n * w ≤ len
-  pub over : 0 < left - n → len - n * w < w
-
-least-second : (a b n : ℕ) → n ≡ least a b → 0 < a - n → n ≡ b
-unfolding least
-least-second a b n = go (ltb b a)
-  where
-    go : (t : Bool) → n ≡ cond t b a → 0 < a - n → n ≡ b
-    go true e h = e
-    go false e h = absurd (omega arith)
-
-pub counted : (left w len n : ℕ) → 0 < w → n ≡ least left (len / w) → Counted left w len n
-counted left w len n h e = record { to-come = rw e (least-left left (len / w)); bytes = under; over = last }
-  where
-    under : n * w ≤ len
-    under = rw e (le-trans (mul-le-mul-right w (least-right left (len / w))) (div-mul-le-self len w))
-
-    last : 0 < left - n → len - n * w < w
-    last g =
-        let z : len < len / w * w + w = lt-div-mul-add h in
-        rw (least-second left (len / w) n e g) (omega arith)
-
 -- the text of a trace: that of its whole rows, and the line of what it is refused with
-module _ (c : Course) (s : List ℕ) (n : ℕ) (all : Counted (c .left) (rowWidth c) (length s) n) where
-  pub text-parts : courseText c s ≡ nextRows n c s ++ reasonText (courseRefusal c s)
+module _ (c : Course) (s : List ℕ) (n : ℕ) (whole : Whole c s n) where
+  -- which refusal it is
+  refusal-here : courseRefusal c s ≡ rowsRefusal (c .left - n) (rowWidth c) (length s - n * rowWidth c)
   unfolding courseRefusal
+  refusal-here = refusal-cut n (c .left) (rowWidth c) (length s) (whole .under) (whole .fits)
+
+  -- where rows are missing, the bytes after the whole ones are too few for one
+  too-few : 0 < c .left - n → length s - n * rowWidth c < rowWidth c
+  too-few h = ⊎-elim (λ (e : n ≡ c .left). absurd (omega arith)) (λ (l : length s < n * rowWidth c + rowWidth c). omega (arith, whole .fits)) (whole .all)
+
+  pub text-parts : courseText c s ≡ nextRows n c s ++ reasonText (courseRefusal c s)
   text-parts =
-      let c′ = onRows n c s in
-      let s′ = drop (n * rowWidth c) s in
-      let el : onRows n c s .left ≡ c .left - n = on-left n c s in
-      let ew : rowWidth (onRows n c s) ≡ rowWidth c = on-width n c s in
       let es : length (drop (n * rowWidth c) s) ≡ length s - n * rowWidth c = length-drop (n * rowWidth c) s in
-      let short : 0 < onRows n c s .left → length (drop (n * rowWidth c) s) < rowWidth c = λ h. rw es (all .over (rw el at h)) in
-      let short′ : 0 < onRows n c s .left → length (drop (n * rowWidth c) s) < rowWidth (onRows n c s) = λ h. rw ew (short h) in
-      rows-cut n c s (all .to-come) (all .bytes)
-      ∙ ap (_++_ (nextRows n c s)) (over c′ s′ short′ ∙ over-reason (c′ .left) (rowWidth c) s′ short ∙ ap reasonText (rw (el, es) (sym (refusal-cut n (c .left) (rowWidth c) (length s) (all .to-come) (all .bytes)))))
+      whole-rows c s n whole
+      ∙ ap (_++_ (nextRows n c s)) (over-reason (c .left - n) (rowWidth c) (drop (n * rowWidth c) s) (λ h. rw es (too-few h)) ∙ ap reasonText (rw es (sym refusal-here)))
 
   pub text-length : length (courseText c s) ≡ n * (c .lanes * 9) + length (reasonText (courseRefusal c s))
   text-length = ap length text-parts ∙ length-append (nextRows n c s) (reasonText (courseRefusal c s)) ∙ rw (next-length n c s)
 
-  -- which refusal it is
-  refusal-here : courseRefusal c s ≡ rowsRefusal (c .left - n) (rowWidth c) (length s - n * rowWidth c)
-  unfolding courseRefusal
-  refusal-here = refusal-cut n (c .left) (rowWidth c) (length s) (all .to-come) (all .bytes)
-
   pub reason-cut : n < c .left → Refusal.Cut ≡ courseRefusal c s
-  reason-cut h = sym (refusal-here ∙ refusal-short _ _ _ (omega arith) (all .over (omega arith)))
+  reason-cut h = sym (refusal-here ∙ refusal-short _ _ _ (omega arith) (too-few (omega arith)))
 
   pub reason-rest : c .left ≤ n → n * rowWidth c < length s → Refusal.Rest ≡ courseRefusal c s
   reason-rest h g = sym (refusal-here ∙ refusal-some _ _ _ (omega arith) (omega arith))
@@ -340,12 +277,6 @@ module _ (s out₀ : List ℕ) (c₀ : Course) (width cells values : ℕ) (ok : 
 pub printable-still : (c : Course) (width : ℕ) (s : List ℕ) (a b out a′ b′ : ℕ) → Printable c width s a b out → a′ ≡ a → b′ ≡ b → Printable c width s a′ b′ out
 printable-still c width s a b out a′ b′ p e f = rw (e, f) p
 
-pub cells-still : (l a : List Float) (n : ℕ) (c : Course) (s : List ℕ) → a ≡ sets l 0 (rowCells n c s) → length a ≡ length l
-cells-still l a n c s e = ap length e ∙ length-sets l 0 (rowCells n c s)
-
-pub values-still : (l a : List Float) (n : ℕ) (c : Course) (s : List ℕ) → a ≡ sets l 0 (rowValues n c s) → length a ≡ length l
-values-still l a n c s e = ap length e ∙ length-sets l 0 (rowValues n c s)
-
 -- ---- how long the line of a refusal is
 
 module _ (why : Refusal) (n : ℕ) (e : n ≡ numberOf why) where
@@ -384,28 +315,29 @@ module _ (c : Course) (s : List ℕ) (w n : ℕ) (t : laned (c .kind) (c .lanes)
   pub width-some : (0 < c .lanes * 3 * w) × (c .lanes * 3 * w ≤ 96)
   width-some = width-range (c .kind) (c .lanes) w true (sym t) refl ew
 
-  pub all-counted : Counted (c .left) (rowWidth c) (length s) n
-  all-counted = counted (c .left) (rowWidth c) (length s) n (subst (λ (x : ℕ). 0 < x) width-is (width-some .0)) (rw width-is at en)
+  pub all-whole : Whole c s n
+  unfolding wholeRows
+  all-whole = rw (en, width-is) (whole-is c s (rw width-is at (width-some .0)))
 
   pub used-fits : n * (c .lanes * 3 * w) ≤ length s
-  used-fits = rw width-is (all-counted .bytes)
+  used-fits = rw width-is (all-whole .fits)
 
   pub reason-is : (why : Refusal) → why ≡ cond (ltb n (c .left)) Refusal.Cut (cond (ltb (n * (c .lanes * 3 * w)) (length s)) Refusal.Rest Refusal.None) → why ≡ courseRefusal c s
   reason-is why e = go (ltb n (c .left)) (ltb (n * (c .lanes * 3 * w)) (length s)) refl refl e
     where
       go : (p q : Bool) → ltb n (c .left) ≡ p → ltb (n * (c .lanes * 3 * w)) (length s) ≡ q → why ≡ cond p Refusal.Cut (cond q Refusal.Rest Refusal.None) → why ≡ courseRefusal c s
-      go true q ep eq h = h ∙ reason-cut c s n all-counted (ltb-true _ _ ep)
-      go false true ep eq h = h ∙ reason-rest c s n all-counted (ltb-false _ _ ep) (rw width-is at (ltb-true (n * (c .lanes * 3 * w)) (length s) eq))
-      go false false ep eq h = h ∙ reason-none c s n all-counted (ltb-false _ _ ep) (rw width-is at (ltb-false (n * (c .lanes * 3 * w)) (length s) eq))
+      go true q ep eq h = h ∙ reason-cut c s n all-whole (ltb-true _ _ ep)
+      go false true ep eq h = h ∙ reason-rest c s n all-whole (ltb-false _ _ ep) (rw width-is at (ltb-true (n * (c .lanes * 3 * w)) (length s) eq))
+      go false false ep eq h = h ∙ reason-none c s n all-whole (ltb-false _ _ ep) (rw width-is at (ltb-false (n * (c .lanes * 3 * w)) (length s) eq))
 
   pub need-is : (why : Refusal) (r : ℕ) → why ≡ courseRefusal c s → r ≡ length (reasonText why) → n * (c .lanes * 9) + r ≡ length (courseText c s)
-  need-is why r e er = rw (er, e) (sym (text-length c s n all-counted))
+  need-is why r e er = rw (er, e) (sym (text-length c s n all-whole))
 
   -- far from the largest number
   pub need-fits : c .left < 1000000000 → n * (c .lanes * 9) ≤ 72000000000
   need-fits h =
       let p1 : c .lanes ≤ 8 = laned-parts (c .kind) (c .lanes) t .1 in
-      let nl : n ≤ c .left = all-counted .to-come in
+      let nl : n ≤ c .left = all-whole .under in
       mul-le-mul {n₁ = n} {m₁ = c .lanes * 9} {n₂ = 1000000000} {m₂ = 72} (omega arith) (omega arith)
 
 pub whole-refused : (s : List ℕ) (b : Begun) (t : Bool) → b ≡ startOf s → t ≡ refused (b .refusal) → t ≡ true → (replayRefusal s ≡ b .refusal) × (replayOf s ≡ refusedLine (b .refusal))

@@ -7,7 +7,7 @@ use mathlib.Core.Logic.{_⊎_, inl, ⊎-elim}
 use Prim.Native.Nat.{ℕ, zero, suc, _+_, _-_, _*_, _≤_, _<_, min}
 use native.Mathlib.Omega.{arith}
 use lib.Dec.{leb, eqb}
-use lib.ListN.{length, take, drop, length-drop, length-take, length-append}
+use lib.ListN.{length, take, drop, length-take, length-append}
 use lib.Seq.{take-append-seam, drop-append-le}
 use borrow.Author.Tests.{leb-true}
 use Rattle.refusal.specs.declared.Refusal.{Refusal}
@@ -22,7 +22,7 @@ use Rattle.npy.specs.Header.{headerOf, accepted}
 use Rattle.bank.specs.declared.Bank.{Bank}
 use Rattle.trace.specs.declared.course.Course.{Course}
 use Rattle.trace.specs.Trace.{refused, isF4, settingsBytes, settingsRefusal, openedBank, refusedStart, traceStart, startOf, replayOf, refusedLine, endText, rowWidth, rowCalls, rowLine, rowOn, nextRows, onRows, courseText}
-use Rattle.trace.specs.TraceLaws.{rows-on, width-on, rows-cut, end-rest, Spent, spent-text, whole-spent, wholeRows, whole-is, on-width, settings-parts, secondAt, secondHead, Started, started, some-bytes}
+use Rattle.trace.specs.TraceLaws.{rows-on, width-on, rows-cut, end-rest, Spent, spent-text, whole-spent, wholeRows, whole-is, on-width, settings-parts, secondAt, started, start-within, some-bytes}
 
 -- ---- rows are read from their own bytes alone
 
@@ -193,12 +193,6 @@ start-early first rest h =
     (λ (l : 2184 ≤ length first). rw (take-append-seam first rest) at (start-take (length first) (first ++ rest) l))
     (λ (e : rest ≡ []). rw (e, append-nil first))
     h
-
--- the rows begin within it
-pub start-within : (s : List ℕ) → Started s → startOf s .at ≤ length s
-start-within s g =
-    let a : secondHead s .at ≤ length s - secondAt s = rw length-drop at (at-within (drop (secondAt s) s)) in
-    omega (arith, g .at, g .settings .fits)
 
 -- and prints what the file means
 pub streamed-theorem : (first : List ℕ) (ws : List Window) → Enough first (joined ws)

@@ -1,6 +1,6 @@
 use denote.Ref.{now}
 use Rattle.npy.specs.HeaderLaws.{at-within}
-use Rattle.trace.specs.CodeLaws.{start-refused, started, settled-from}
+use Rattle.trace.specs.CodeLaws.{start-refused, start-given, settings-from}
 use native.Mathlib.Omega.{arith}
 use borrow.Author.Needs.{needs}
 use Rattle.trace.proofs.opening.start.Statement.{statement}
@@ -24,37 +24,37 @@ returns c =
     start-refused _ _ _ _ _ (b .before .header .ensures) (b .settings-refusal .ensures) (c .before .before .refused .ensures) (c .before .if1 .taken) (c .refused-start .ensures)
 
 sub-opened : tie.Need-sub-opened
-sub-opened c = omega (arith, settled-from (now (c .before .before .before .before .before .args .bytes)) _ _ _ (c .before .before .settings-refusal .ensures) (c .before .refused .ensures) (c .if1 .left))
+sub-opened c = omega (arith, settings-from (now (c .before .before .before .before .before .args .bytes)) _ _ _ (c .before .before .settings-refusal .ensures) (c .before .refused .ensures) (c .if1 .left))
 
 part-opened-start : tie.Need-part-opened-start
-part-opened-start c = omega (arith, settled-from (now (c .before .before .before .before .before .args .bytes)) _ _ _ (c .before .before .settings-refusal .ensures) (c .before .refused .ensures) (c .if1 .left))
+part-opened-start c = omega (arith, settings-from (now (c .before .before .before .before .before .args .bytes)) _ _ _ (c .before .before .settings-refusal .ensures) (c .before .refused .ensures) (c .if1 .left))
 
 part-opened-end : tie.Need-part-opened-end
 part-opened-end c = search needs
 
 opened-requires : tie.Need-opened-requires
-opened-requires c κs = settled-from (now (c .before .before .before .before .before .before .args .bytes)) _ _ _ (c .before .before .before .settings-refusal .ensures) (c .before .before .refused .ensures) (c .before .if1 .left) .few
+opened-requires c κs = settings-from (now (c .before .before .before .before .before .before .args .bytes)) _ _ _ (c .before .before .before .settings-refusal .ensures) (c .before .before .refused .ensures) (c .before .if1 .left) .few
 
 mul-trace-start : tie.Need-mul-trace-start
 mul-trace-start c =
     let b = c .before .before in
-    omega (arith, settled-from (now (b .before .before .before .before .before .args .bytes)) _ _ _ (b .before .before .settings-refusal .ensures) (b .before .refused .ensures) (b .if1 .left))
+    omega (arith, settings-from (now (b .before .before .before .before .before .args .bytes)) _ _ _ (b .before .before .settings-refusal .ensures) (b .before .refused .ensures) (b .if1 .left))
 
 add-trace-start : tie.Need-add-trace-start
 add-trace-start c =
     let b = c .before .before in
-    omega (arith, settled-from (now (b .before .before .before .before .before .args .bytes)) _ _ _ (b .before .before .settings-refusal .ensures) (b .before .refused .ensures) (b .if1 .left))
+    omega (arith, settings-from (now (b .before .before .before .before .before .args .bytes)) _ _ _ (b .before .before .settings-refusal .ensures) (b .before .refused .ensures) (b .if1 .left))
 
 trace-start-requires : tie.Need-trace-start-requires
 trace-start-requires c κs =
     let b = c .before .before in
-    let g = settled-from (now (b .before .before .before .before .before .args .bytes)) _ _ _ (b .before .before .settings-refusal .ensures) (b .before .refused .ensures) (b .if1 .left) in
-    (g .few, g .there)
+    let g = settings-from (now (b .before .before .before .before .before .args .bytes)) _ _ _ (b .before .before .settings-refusal .ensures) (b .before .refused .ensures) (b .if1 .left) in
+    (g .few, g .fits)
 
 returns-2 : tie.Need-returns-2
 returns-2 c =
     let b = c .before .before .before in
-    started _ _ _ _ _ _ (b .before .before .before .header .ensures) (b .before .before .settings-refusal .ensures) (b .before .refused .ensures) (b .if1 .left) (c .before .opened .ensures) (c .trace-start .ensures)
+    start-given _ _ _ _ _ _ (b .before .before .before .header .ensures) (b .before .before .settings-refusal .ensures) (b .before .refused .ensures) (b .if1 .left) (c .before .opened .ensures) (c .trace-start .ensures)
 
 pub start-spec : {M : Type 1} → statement M
 start-spec =

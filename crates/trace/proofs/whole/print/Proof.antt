@@ -1,9 +1,11 @@
 use lib.Seq.{length-sets}
 use Rattle.trace.specs.Trace.{courseText}
-use Rattle.trace.specs.WholeLaws.{Printing, print-start, turn, printed, printable-still, cells-still, values-still}
+use Rattle.trace.specs.WholeLaws.{Printing, print-start, turn, printed, printable-still}
+use Rattle.trace.specs.RowsLaws.{as-long-still}
 use mathlib.Core.Path.{_≡_, refl, ap, _∙_}
 use native.Mathlib.Omega.{arith}
 use lib.ListN.{length}
+use Rattle.trace.specs.Slices.{rowCells, rowValues}
 use borrow.Author.Needs.{needs}
 use Rattle.trace.proofs.whole.print.Statement.{statement}
 use Rattle.trace.proofs.whole.print.Tie as tie
@@ -72,7 +74,7 @@ loop-again c =
     let at = c .before .before .before .before .before .before .before .before .before .before .before .before .before .before .before .before in
     let from = at .before .before .before .before .before in
     let went = c .before .before .before .before .before .before .before .before .before .rows .ensures in
-    (turn (from .args .trace .now) (from .args .out .now) _ (from .args .width) (length (at .loop .cells)) (length (at .loop .values)) (printable-still _ _ _ _ _ _ _ _ (from .pre) (at .loop .inv .1) (at .loop .inv .2)) (at .loop .out) _ (at .loop .going) (at .loop .at) (at .loop .o) _ _ (at .loop .inv .0) (c .before .before .before .before .before .before .before .before .before .before .before .before .before .before .before .more .ensures) (c .before .before .before .before .before .before .before .before .before .before .before .before .before .before .if1 .taken) (went .0) (went .3) .0, cells-still (at .loop .cells) _ _ _ _ (went .1) ∙ at .loop .inv .1, values-still (at .loop .values) _ _ _ _ (went .2) ∙ at .loop .inv .2)
+    (turn (from .args .trace .now) (from .args .out .now) _ (from .args .width) (length (at .loop .cells)) (length (at .loop .values)) (printable-still _ _ _ _ _ _ _ _ (from .pre) (at .loop .inv .1) (at .loop .inv .2)) (at .loop .out) _ (at .loop .going) (at .loop .at) (at .loop .o) _ _ (at .loop .inv .0) (c .before .before .before .before .before .before .before .before .before .before .before .before .before .before .before .more .ensures) (c .before .before .before .before .before .before .before .before .before .before .before .before .before .before .if1 .taken) (went .0) (went .3) .0, as-long-still (at .loop .cells) _ (rowCells _ _ _) (went .1) ∙ at .loop .inv .1, as-long-still (at .loop .values) _ (rowValues _ _ _) (went .2) ∙ at .loop .inv .2)
 
 sub-end : tie.Need-sub-end Inv-loop μ-loop
 sub-end c = c .before .before .loop .inv .0 .there
