@@ -18,7 +18,7 @@ use Rattle.npy.specs.declared.reader.Kind.{Kind}
 use Rattle.npy.specs.declared.reader.Head.{Head}
 use Rattle.npy.specs.declared.reader.Places.{Places}
 use Rattle.npy.specs.Text.{begins, decimal, kindOf, kindEnd, rowsAt, rowsEnd, colsAt, colsEnd, placesOf, spelled}
-use Rattle.npy.specs.TextLaws.{and-left, and-right}
+use Rattle.float.specs.FloatLaws.{and-left, and-right}
 use Rattle.npy.specs.Header.{lowFirst, magic, refusedHead, acceptedHead, accepted, textHead, textFits, textLength, headerW, widthOf, headerOf, dataOf, placeIn}
 
 -- one byte more of a number, from the high end: what is past the end counts as 0

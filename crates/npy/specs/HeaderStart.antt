@@ -15,7 +15,8 @@ use Rattle.refusal.specs.declared.Refusal.the-variants as Refusal
 use Rattle.npy.specs.declared.reader.Head.{Head}
 use Rattle.npy.specs.Text.{begins, within, isDigit, lead, endOf, decimal, rowsAt, rowsEnd, colsAt, colsEnd, placesOf, spelled}
 use Rattle.refusal.specs.Cases.{lt-or-le}
-use Rattle.npy.specs.TextLaws.{and-left, and-right, spelled-parts, number-size}
+use Rattle.float.specs.FloatLaws.{and-left, and-right}
+use Rattle.npy.specs.TextLaws.{spelled-parts, number-size}
 use Rattle.npy.specs.Header.{magic, refusedHead, acceptedHead, accepted, textHead, textFits, textLength, headerW, widthOf, headerOf}
 use Rattle.npy.specs.HeaderLaws.{drop-take, fits-parts, width-small, at-within}
 

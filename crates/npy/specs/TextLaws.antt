@@ -11,6 +11,7 @@ use native.Mathlib.Nat.{add-zero, pow-suc, pow-le-pow-right}
 use lib.ListN.{length, getD, take, drop, drop-of-length-le, length-drop}
 use lib.Seq.{drop-cons}
 use lib.Dec.{eqb, leb, ltb, lit<}
+use Rattle.float.specs.FloatLaws.{and-left, and-right}
 use Rattle.refusal.specs.Cases.{lt-or-le}
 use Rattle.npy.specs.declared.reader.Places.{Places}
 use Rattle.npy.specs.Text.{begins, isKind, isDigit, isSpace, lead, endOf, decimal, kindFits, isNumber, opening, middle, comma, closing, ending, kindEnd, rowsAt, rowsEnd, colsAt, colsEnd, feedAt, placesOf, frontSpelled, shapeSpelled, endSpelled, spelled}
@@ -109,14 +110,6 @@ kind-sized e h =
 pub no-number : (x e at : ℕ) → e < at → false ≡ isNumber x (e - at)
 unfolding isNumber
 no-number x e at h = let a : e - at ≡ 0 = omega arith in rw a
-
-pub and-left : (a b : Bool) → (a && b) ≡ true → a ≡ true
-and-left true b h = refl
-and-left false b h = h
-
-pub and-right : (a b : Bool) → (a && b) ≡ true → b ≡ true
-and-right true b h = h
-and-right false b h = let z : false ≡ true = h in cc
 
 pub places-of : (t : List ℕ) (a b c d : ℕ) → a ≡ endOf isKind t 11 → b ≡ endOf isDigit t (a + 37) → c ≡ endOf isDigit t (b + 2) → d ≡ endOf isSpace t (c + 4)
     → record { «kind_end» = a; rows = a + 37; «rows_end» = b; cols = b + 2; «cols_end» = c; feed = d; end = d + 1 } ≡ placesOf t

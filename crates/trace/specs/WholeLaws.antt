@@ -17,7 +17,7 @@ use Rattle.refusal.specs.declared.Refusal.the-variants as Refusal
 use Rattle.refusal.specs.Refusal.{numberOf}
 use Rattle.npy.specs.declared.reader.Kind.{Kind}
 use Rattle.npy.specs.declared.reader.Head.{Head}
-use Rattle.npy.specs.TextLaws.{and-left, and-right}
+use Rattle.float.specs.FloatLaws.{and-left, and-right}
 use Rattle.npy.specs.Header.{cellWidth, accepted, refusedHead, headerOf}
 use Rattle.npy.specs.HeaderLaws.{to-end, refused-is}
 use Rattle.npy.specs.Cell.{least}
