@@ -88,33 +88,27 @@ opened-refusal l s (At limit) g = go (badLimit limit) refl
     go true e = simp e
     go false e = simp (e, slew-accepted s g limit e)
 
--- a test picks the refusals as it picks the answers
-picks : (t : Bool) (a b : Stepped) → cond t a b .answer .refusal ≡ cond t (a .answer .refusal) (b .answer .refusal)
-picks true a b = refl
-picks false a b = refl
+-- a test picks what is read of an answer as it picks the answers
+picks : {A B : Type 0} (f : A → B) (t : Bool) (a b : A) → f (cond t a b) ≡ cond t (f a) (f b)
+picks f true a b = refl
+picks f false a b = refl
 
-picks-changed : (t : Bool) (a b : Changed) → cond t a b .refusal ≡ cond t (a .refusal) (b .refusal)
-picks-changed true a b = refl
-picks-changed false a b = refl
+abbrev why : Stepped → Refusal
+why s = s .answer .refusal
 
-picks-updated : (t : Bool) (a b : Updated) → cond t a b .answer .refusal ≡ cond t (a .answer .refusal) (b .answer .refusal)
-picks-updated true a b = refl
-picks-updated false a b = refl
-
-picks-terms : (t : Bool) (a b : Terms) → cond t a b .refusal ≡ cond t (a .refusal) (b .refusal)
-picks-terms true a b = refl
-picks-terms false a b = refl
+abbrev whyChanged : Changed → Refusal
+whyChanged c = c .refusal
 
 pub step-refusal : (l : Lane) (op : Op) → laneStep l op .answer .refusal ≡ laneRefusal l op
 unfolding laneStep laneRefusal whenOpen whenGood callSetTs callSetGains callEnableIntegral callResetIntegral callUpdate callGetTerms guarded
-step-refusal l (Open kp ki kd tau dt slew) = simp (picks, opened-refusal l (newRate kp ki kd tau dt) slew (new-limit kp ki kd tau dt))
-step-refusal l Close = simp picks
-step-refusal l (Update r m p) = simp (picks, picks-updated)
-step-refusal l (SetTs ts) = simp (picks, picks-changed)
-step-refusal l (SetGains kp ki kd) = simp (picks, picks-changed)
-step-refusal l (EnableIntegral on) = simp (picks, picks-changed)
-step-refusal l ResetIntegral = simp (picks, picks-changed)
-step-refusal l ReadTerms = simp (picks, picks-terms)
+step-refusal l (Open kp ki kd tau dt slew) = simp (picks why, opened-refusal l (newRate kp ki kd tau dt) slew (new-limit kp ki kd tau dt))
+step-refusal l Close = simp (picks why)
+step-refusal l (Update r m p) = simp (picks why, picks (λ (u : Updated). u .answer .refusal))
+step-refusal l (SetTs ts) = simp (picks why, picks whyChanged)
+step-refusal l (SetGains kp ki kd) = simp (picks why, picks whyChanged)
+step-refusal l (EnableIntegral on) = simp (picks why, picks whyChanged)
+step-refusal l ResetIntegral = simp (picks why, picks whyChanged)
+step-refusal l ReadTerms = simp (picks why, picks (λ (t : Terms). t .refusal))
 
 -- ---- a refused call leaves the lane, and its numbers are +0
 

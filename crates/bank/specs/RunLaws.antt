@@ -52,11 +52,11 @@ module _ (L : ℕ) (within : L ≤ 7) where
 
   -- THE RUN THEOREM: what a lane answers in a run of a fresh bank is what one controller answers to that lane's calls alone
   pub run-theorem : (calls : List (For Op)) → ofLane L (run freshBank calls) ≡ singleRun none (ofLane L calls)
-  run-theorem calls = apart calls freshBank none fresh-eight (fresh-closed L within) refl .answers
+  run-theorem calls = apart calls freshBank none fresh-eight (fresh-closed L within) tt .answers
 
   -- and what lies in the lane is that controller
   pub run-leaves : (calls : List (For Op)) → laneAt (after freshBank calls) L ≡ laneOf (singleAfter none (ofLane L calls))
-  run-leaves calls = apart calls freshBank none fresh-eight (fresh-closed L within) refl .left
+  run-leaves calls = apart calls freshBank none fresh-eight (fresh-closed L within) tt .left
 
   -- two runs with the same calls for the lane have the same answers from it, whatever else stands between
   pub same-answers : (calls other : List (For Op)) → ofLane L calls ≡ ofLane L other → ofLane L (run freshBank calls) ≡ ofLane L (run freshBank other)
@@ -73,4 +73,4 @@ bounded-from c (op ∷ ops) g b =
 
 -- after every run of a fresh bank each lane's integral is NaN or from −1 to 1; a closed lane's is +0
 pub integral-bounded : (calls : List (For Op)) (L : ℕ) → L ≤ 7 → Within F.minusOne F.one (laneAt (after freshBank calls) L .pid .integral)
-integral-bounded calls L h = subst BoundedLane (sym (run-leaves L h calls)) (bounded-from none (ofLane L calls) refl closed-bounded)
+integral-bounded calls L h = subst BoundedLane (sym (run-leaves L h calls)) (bounded-from none (ofLane L calls) tt closed-bounded)

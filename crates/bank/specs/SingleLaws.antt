@@ -4,7 +4,7 @@ use mathlib.Core.Path.{_≡_, refl, _∙_}
 use mathlib.Core.Bool.{Bool, true, false}
 use Rattle.filters.specs.SlewRate.{badLimit}
 use Rattle.rate_pid.specs.declared.RatePid.{RatePid}
-use Rattle.rate_pid.specs.RatePid.{zeroRate, newRate, badRate, callSetTs, callSetGains, callEnableIntegral, callResetIntegral}
+use Rattle.rate_pid.specs.RatePid.{newRate, badRate, callSetTs, callSetGains, callEnableIntegral, callResetIntegral}
 use Rattle.rate_pid.specs.RatePidLaws.{guard-passed, update-accepted, get-terms-accepted, slew-accepted, zero-limit, new-limit, step-limit, limit-limit, ts-limit, gains-limit, enable-limit, reset-limit}
 use Rattle.bank.specs.declared.lane.Lane.{Lane}
 use Rattle.bank.specs.declared.lane.SlewLimit.{SlewLimit}
@@ -20,9 +20,9 @@ abbrev pub laneOf : Single → Lane
 laneOf none = closedLane
 laneOf (one s) = openLane s
 
--- its stored limit is not bad
+-- its stored limit is not bad; of none, nothing is asked
 abbrev pub Good : Single → Type 0
-Good none = zeroRate ≡ zeroRate
+Good none = Unit
 Good (one s) = badRate s ≡ false
 
 -- the lane's step is the controller's, which stays good
@@ -36,7 +36,7 @@ opened-as s Off g = record { same = refl; good = g }
 opened-as s (At limit) g = go (badLimit limit) refl
   where
     go : (t : Bool) → badLimit limit ≡ t → As (opened closedLane s (At limit)) (newSingle s (At limit))
-    go true e = record { same = simp e; good = simp e refl }
+    go true e = record { same = simp e; good = simp e tt }
     go false e = record { same = simp (e, slew-accepted s g limit e); good = simp e (limit-limit s limit ∙ e) }
 
 pub step-as : (c : Single) (op : Op) → Good c → As (laneStep (laneOf c) op) (singleStep c op)
@@ -44,15 +44,15 @@ unfolding laneStep singleStep whenOpen whenGood closedLane callSetTs callSetGain
 step-as none (Open kp ki kd tau dt slew) g =
     let made = opened-as (newRate kp ki kd tau dt) slew (new-limit kp ki kd tau dt) in
     record { same = simp zero-limit (made .same); good = made .good }
-step-as none Close g = record { same = refl; good = refl }
-step-as none (Update r m p) g = record { same = refl; good = refl }
-step-as none (SetTs ts) g = record { same = refl; good = refl }
-step-as none (SetGains kp ki kd) g = record { same = refl; good = refl }
-step-as none (EnableIntegral on) g = record { same = refl; good = refl }
-step-as none ResetIntegral g = record { same = refl; good = refl }
-step-as none ReadTerms g = record { same = refl; good = refl }
+step-as none Close g = record { same = refl; good = tt }
+step-as none (Update r m p) g = record { same = refl; good = tt }
+step-as none (SetTs ts) g = record { same = refl; good = tt }
+step-as none (SetGains kp ki kd) g = record { same = refl; good = tt }
+step-as none (EnableIntegral on) g = record { same = refl; good = tt }
+step-as none ResetIntegral g = record { same = refl; good = tt }
+step-as none ReadTerms g = record { same = refl; good = tt }
 step-as (one s) (Open kp ki kd tau dt slew) g = record { same = refl; good = g }
-step-as (one s) Close g = record { same = simp g; good = refl }
+step-as (one s) Close g = record { same = simp g; good = tt }
 step-as (one s) (Update r m p) g = record { same = simp (update-accepted s g r m p); good = step-limit s r m p ∙ g }
 step-as (one s) (SetTs ts) g = record { same = simp (guard-passed s g); good = ts-limit s ts ∙ g }
 step-as (one s) (SetGains kp ki kd) g = record { same = simp (guard-passed s g); good = gains-limit s kp ki kd ∙ g }

@@ -162,7 +162,7 @@ good-after [] c g = g
 good-after (op ∷ ops) c g = good-after ops (singleStep c op .single) (step-as c op g .good)
 
 pub fresh-lies : (L : ℕ) → L ≤ 7 → Lies L freshBank none
-fresh-lies L h = record { eight = fresh-eight; here = fresh-closed L h; good = refl }
+fresh-lies L h = record { eight = fresh-eight; here = fresh-closed L h; good = tt }
 
 -- after a run it has had the lane's calls
 pub lies-after : (L : ℕ) → L ≤ 7 → (calls : List (For Op)) (b : Bank) (c : Single) → Lies L b c → Lies L (after b calls) (singleAfter c (ofLane L calls))
