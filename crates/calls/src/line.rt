@@ -66,7 +66,7 @@ fn operands(rest: &[u8], count: usize, ops: &mut [u32]) -> bool
     true
 }
 
-// The parts, one after the other, until one knows the call. Each later crate adds its own part here.
+// The parts, one after the other, until one knows the call.
 fn tell(name: &[u8], ops: &[u32], states: &mut [u32], res: &mut [u32]) -> Told {
     match of_numbers::tell(name, ops, res) {
         Told::Answer(refusal, n) => Told::Answer(refusal, n),

@@ -1,4 +1,4 @@
-// Makes every public call by a line of text, one answer a line: docs/CALLS.md has the form of the lines.
+// Makes the calls of docs/CALLS.md, each by a line of text, one answer a line.
 mod line;
 
 use libc::STDIN_FILENO;

@@ -1,7 +1,5 @@
 // A run of rows of eight lanes for C and Rust to link: the benchmarks call it.
 ghost use mathlib.Core.Path.{_≡_};
-ghost use lib.ListN.{getD};
-ghost use lib.Ieee.{nan};
 ghost use Rattle.bank.specs.Rows.{rowsOut};
 ghost use Rattle.linked_rows.specs.Eight.{opened, eightOf};
 use bank::Bank;

@@ -1,6 +1,4 @@
 // The table lookup: crate linear_lut.
-ghost use Prim.Native.Nat.{_+_, _≤_};
-ghost use lib.ListN.{length};
 use told::Told;
 
 // As many numbers as a line has room for.

@@ -5,7 +5,6 @@ ghost use lib.ListN.{length};
 use libc::STDERR_FILENO;
 use libc::STDIN_FILENO;
 use libc::STDOUT_FILENO;
-use refusal::Refusal;
 use trace::Begun;
 use trace::Course;
 
@@ -241,6 +240,7 @@ fn run(input: &mut [u8], cells: &mut [f32], values: &mut [f32], out: &mut [u8]) 
 
 fn main() {
     let mut input = io::large_buffer();
+    // 7280 values, 910 rows of eight lanes: `out` holds their words, 9 bytes each, with 16 bytes over. Three cells a value.
     let mut cells = [0.0f32; 21840];
     let mut values = [0.0f32; 7280];
     let mut out = io::large_buffer();
