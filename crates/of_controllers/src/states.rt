@@ -4,34 +4,11 @@ ghost use Prim.Native.Nat.{_<_};
 use angle_pid::LpFilter;
 use angle_pid::Pid;
 use angle_pid::Range;
-use filters::Lowpass;
-use filters::NthOrderLowpass;
 use filters::SlewRate;
+use of_filters::states;
 use rate_pid::PidTerms;
 use rate_pid::RatePid;
 use rate_pid::Slew;
-
-pub(crate) fn lowpass_at(w: &[u32], at: usize) -> Lowpass
-    requires { ⌜ at < 4096 ⌝ }
-{
-    Lowpass {
-        tau: told::number(w, at),
-        dt: told::number(w, at + 1),
-        y: told::number(w, at + 2),
-        alpha0: told::number(w, at + 3),
-        alpha1: told::number(w, at + 4),
-    }
-}
-
-fn put_lowpass(w: &mut [u32], at: usize, f: Lowpass)
-    requires { ⌜ at < 4096 ⌝ }
-{
-    told::put_number(w, at, f.tau);
-    told::put_number(w, at + 1, f.dt);
-    told::put_number(w, at + 2, f.y);
-    told::put_number(w, at + 3, f.alpha0);
-    told::put_number(w, at + 4, f.alpha1);
-}
 
 // Three numbers in a row, as a range's and a slew limiter's are.
 fn put_three(w: &mut [u32], at: usize, a: f32, b: f32, c: f32)
@@ -69,7 +46,7 @@ fn put_range(w: &mut [u32], at: usize, r: Range)
 fn lp_filter_at(w: &[u32], at: usize) -> LpFilter
     requires { ⌜ at < 4000 ⌝ }
 {
-    let filter = lowpass_at(w, at + 1);
+    let filter = states::lowpass_at(w, at + 1);
     if told::word(w, at) == 1 {
         LpFilter::On(filter)
     } else {
@@ -87,7 +64,7 @@ fn put_lp_filter(w: &mut [u32], at: usize, f: LpFilter)
         }
         LpFilter::On(filter) => {
             told::put_word(w, at, 1);
-            put_lowpass(w, at + 1, filter);
+            states::put_lowpass(w, at + 1, filter);
         }
     }
 }
@@ -162,23 +139,6 @@ fn put_slew(w: &mut [u32], at: usize, s: Slew)
     }
 }
 
-fn lowpass2_at(w: &[u32], at: usize) -> NthOrderLowpass
-    requires { ⌜ at < 4000 ⌝ }
-{
-    let first = lowpass_at(w, at);
-    let second = lowpass_at(w, at + 5);
-    NthOrderLowpass { first, second }
-}
-
-fn put_lowpass2(w: &mut [u32], at: usize, f: NthOrderLowpass)
-    requires { ⌜ at < 4000 ⌝ }
-{
-    let first = f.first;
-    let second = f.second;
-    put_lowpass(w, at, first);
-    put_lowpass(w, at + 5, second);
-}
-
 fn terms_at(w: &[u32], at: usize) -> PidTerms
     requires { ⌜ at < 4000 ⌝ }
 {
@@ -205,8 +165,8 @@ pub fn rate_pid_at(w: &[u32], at: usize) -> RatePid {
         return RatePid::zero();
     }
     let terms = terms_at(w, at + 6);
-    let lowpass = lowpass_at(w, at + 12);
-    let d_lowpass = lowpass2_at(w, at + 17);
+    let lowpass = states::lowpass_at(w, at + 12);
+    let d_lowpass = states::lowpass2_at(w, at + 17);
     let d_slew = slew_at(w, at + 27);
     RatePid {
         kp: told::number(w, at),
@@ -237,7 +197,7 @@ pub fn put_rate_pid(w: &mut [u32], at: usize, p: RatePid) {
     put_terms(w, at + 6, terms);
     told::put_number(w, at + 10, p.dt);
     told::put_bool(w, at + 11, p.integral_en);
-    put_lowpass(w, at + 12, lowpass);
-    put_lowpass2(w, at + 17, d_lowpass);
+    states::put_lowpass(w, at + 12, lowpass);
+    states::put_lowpass2(w, at + 17, d_lowpass);
     put_slew(w, at + 27, d_slew);
 }

@@ -1,5 +1,5 @@
 // The filters: crate filters. Of each type, one function makes its call on the state, and one keeps the state.
-mod states;
+pub mod states;
 
 use filters::Complementary;
 use filters::Highpass;

@@ -10,9 +10,10 @@ use filters::MovingAverage;
 use filters::NthOrderLowpass;
 use filters::SlewRate;
 
-pub(crate) fn lowpass_at(w: &[u32], at: usize) -> Lowpass
-    requires { ⌜ at < 4096 ⌝ }
-{
+pub fn lowpass_at(w: &[u32], at: usize) -> Lowpass {
+    if 4095 < at {
+        return Lowpass::new(0.0, 0.0);
+    }
     Lowpass {
         tau: told::number(w, at),
         dt: told::number(w, at + 1),
@@ -22,9 +23,10 @@ pub(crate) fn lowpass_at(w: &[u32], at: usize) -> Lowpass
     }
 }
 
-pub(crate) fn put_lowpass(w: &mut [u32], at: usize, f: Lowpass)
-    requires { ⌜ at < 4096 ⌝ }
-{
+pub fn put_lowpass(w: &mut [u32], at: usize, f: Lowpass) {
+    if 4095 < at {
+        return;
+    }
     told::put_number(w, at, f.tau);
     told::put_number(w, at + 1, f.dt);
     told::put_number(w, at + 2, f.y);
@@ -112,17 +114,19 @@ pub(crate) fn put_slew_rate(w: &mut [u32], at: usize, f: SlewRate)
     told::put_number(w, at + 2, f.dt);
 }
 
-pub(crate) fn lowpass2_at(w: &[u32], at: usize) -> NthOrderLowpass
-    requires { ⌜ at < 4000 ⌝ }
-{
+pub fn lowpass2_at(w: &[u32], at: usize) -> NthOrderLowpass {
+    if 3999 < at {
+        return NthOrderLowpass::new(0.0, 0.0);
+    }
     let first = lowpass_at(w, at);
     let second = lowpass_at(w, at + 5);
     NthOrderLowpass { first, second }
 }
 
-pub(crate) fn put_lowpass2(w: &mut [u32], at: usize, f: NthOrderLowpass)
-    requires { ⌜ at < 4000 ⌝ }
-{
+pub fn put_lowpass2(w: &mut [u32], at: usize, f: NthOrderLowpass) {
+    if 3999 < at {
+        return;
+    }
     let first = f.first;
     let second = f.second;
     put_lowpass(w, at, first);
