@@ -1,13 +1,13 @@
-// A first order low pass. It accepts every number. In memory y stands first, apart from the coefficients, for speed (docs/DECISIONS.md).
+// A first order low pass. It accepts every number. In memory y and the coefficients stand apart, for speed (docs/DECISIONS.md).
 ghost use mathlib.Core.Path.{_≡_};
 ghost use Rattle.filters.specs.Lowpass.{lowpassOf, newLowpass, setDtLowpass, setTauLowpass, stepLowpass};
 
 pub struct Lowpass {
     pub y: f32,
-    pub tau: f32,
-    pub dt: f32,
     pub alpha0: f32,
+    pub tau: f32,
     pub alpha1: f32,
+    pub dt: f32,
 }
 
 pub struct Lowpassed {
