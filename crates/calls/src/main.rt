@@ -29,7 +29,11 @@ fn write(out: &[u8], wait: usize) -> bool {
     io::write_all(STDOUT_FILENO, &out[..wait])
 }
 
+// A write that failed is not forgotten by a later one.
 fn flush(p: Place, out: &[u8]) -> Place {
+    if !p.ok {
+        return p;
+    }
     let ok = write(out, p.wait);
     Place {
         kept: p.kept,

@@ -135,7 +135,7 @@ start-decides m s a b c = rw (width-take m s a, headerW-take (widthOf s) m s b c
 pub window-decides : (m : ℕ) (s : List ℕ) → 1012 ≤ m → headerOf (take m s) ≡ headerOf s
 window-decides m s h = let w = width-small s in start-decides m s (omega arith) (omega arith) (λ l. omega arith)
 
--- whatever stands after an accepted header's data
+-- whatever stands after bytes with an accepted header
 pub more-says : (s r : List ℕ) → accepted (headerOf s) ≡ true → headerOf (s ++ r) ≡ headerOf s
 more-says s r h =
     let p = data-place s h .0 in

@@ -1,7 +1,7 @@
 -- A whole file: how long its text is, what it ends with, and that it is the text of its rows and then of its refusal. Assumes nothing.
 use mathlib.Core.Path.{_≡_, refl, sym, ap, _∙_, subst}
 use mathlib.Core.List.{List, [], _∷_, _++_, append-nil}
-use mathlib.Core.Bool.{Bool, true, false, cond, _&&_}
+use mathlib.Core.Bool.{Bool, true, false, cond, _&&_, true≢false}
 use Prim.Native.Nat.{ℕ, zero, suc, _+_, _-_, _*_, _/_, _≤_, _<_}
 use mathlib.Core.Logic.{⊎-elim, inl, inr}
 use Rattle.refusal.specs.Cases.{lt-or-le}
@@ -27,7 +27,7 @@ use Rattle.trace.specs.declared.course.Went.{Went}
 use Rattle.trace.specs.Trace.{refused, isCell, startOf, rowWidth, rowLine, rowOn, nextRows, onRows, refusedLine, restText, endText, courseText, replayOf}
 use Rattle.trace.specs.Slices.{laned, rowsFor, rowsIn, wentOf, wrote, wroteCount, rowsRefusal, courseRefusal, replayRefusal, reasonText, replayedOf}
 use Rattle.trace.specs.EndLaws.{one-digit, two-digits}
-use Rattle.trace.specs.TraceLaws.{Whole, whole-rows, wholeRows, whole-is, firstHead, secondAt, secondHead, started, start-within, row-length, rows-length, spent-text, row-cut, rows-cut, on-left, on-kind, on-lanes, on-width}
+use Rattle.trace.specs.TraceLaws.{Whole, whole-rows, wholeRows, whole-is, rowsOf, Accepted, accepted-all, accepted-whole, firstHead, secondAt, secondHead, started, start-within, row-length, rows-length, spent-text, row-cut, rows-cut, on-left, on-kind, on-lanes, on-width}
 use Rattle.trace.specs.RowsLaws.{room, sets-append, laned-parts, width-range}
 
 -- a header names fewer than 10⁹ rows; refused, none
@@ -359,3 +359,37 @@ unfolding reasonText replayedOf
 refused-answer why need n out out′ h e w =
     let l : need ≡ length (refusedLine why) = e ∙ rw h in
     (rw l, w .1)
+
+-- ---- a file is accepted exactly where nothing is refused
+
+not-none : (why : Refusal) → refused why ≡ true → why ≡ Refusal.None → ⊥
+not-none why h e = true≢false (sym h ∙ ap refused e)
+
+pub accepted-unrefused : (s : List ℕ) → Accepted s → replayRefusal s ≡ Refusal.None
+unfolding replayRefusal
+accepted-unrefused s a =
+    let c = startOf s .course in
+    simp (a .start) (sym (reason-none c (rowsOf s) (c .left) (accepted-all s a) (omega arith) (omega (arith, a .rows))))
+
+pub unrefused-accepted : (s : List ℕ) → replayRefusal s ≡ Refusal.None → Accepted s
+unfolding replayRefusal
+unrefused-accepted s h = go (refused (startOf s .refusal)) refl
+  where
+    c : Course
+    c = startOf s .course
+
+    all : (n : ℕ) → Whole c (rowsOf s) n → courseRefusal c (rowsOf s) ≡ Refusal.None → length (rowsOf s) ≡ c .left * rowWidth c
+    all n w none =
+        ⊎-elim
+        (λ (l : n < c .left). absurd (not-none Refusal.Cut refl (reason-cut c (rowsOf s) n w l ∙ none)))
+        (λ (g : c .left ≤ n).
+        let e : n ≡ c .left = omega (arith, w .under) in
+        ⊎-elim
+        (λ (l : n * rowWidth c < length (rowsOf s)). absurd (not-none Refusal.Rest refl (reason-rest c (rowsOf s) n w g l ∙ none)))
+        (λ (k : length (rowsOf s) ≤ n * rowWidth c). let m : length (rowsOf s) ≡ n * rowWidth c = omega (arith, w .fits) in m ∙ ap (λ (x : ℕ). x * rowWidth c) e)
+        (lt-or-le (n * rowWidth c) (length (rowsOf s))))
+        (lt-or-le n (c .left))
+
+    go : (t : Bool) → refused (startOf s .refusal) ≡ t → Accepted s
+    go true e = absurd (not-none (startOf s .refusal) e (simp e at h))
+    go false e = record { start = e; rows = all (wholeRows c (rowsOf s)) (accepted-whole s e) (simp e at h) }
