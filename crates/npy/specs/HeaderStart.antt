@@ -36,9 +36,6 @@ took : (b : Bool) (x y : Head) → accepted y ≡ false → accepted (cond b x y
 took true x y e h = refl
 took false x y e h = sym e ∙ h
 
-was : (b : Bool) (x y : Head) → b ≡ true → cond b x y ≡ x
-was b x y e = rw e
-
 kept : (b : Bool) (x y : Head) → accepted x ≡ false → accepted (cond b x y) ≡ true → b ≡ false
 kept true x y e h = sym h ∙ e
 kept false x y e h = refl

@@ -101,7 +101,7 @@ never-halfway b y B e =
         let right : fourfold b ≡ s .digits * 2 ^ (s .by + 151) = rw (fourfold-is, s .is) (four-shifted (s .digits) (s .by)) in
         no-tie (o .half) (i + i) (s .digits) (s .by + 151) (o .large) (s .few) (sym left ∙ e ∙ right)
 
--- the paper's rule, with ≤ on both sides, admits one answer
+-- document 01's rule, with ≤ on both sides, admits one answer
 pub rule-unique : (b y : ℕ) → 0 < b → b < 2 ^ 31 → middle y * middle y ≤ fourfold b → fourfold b ≤ middle (suc y) * middle (suc y) → y ≡ rootBits b
 rule-unique b y B h l u =
     elim (eq-or-lt-of-le u) [
