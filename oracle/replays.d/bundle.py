@@ -20,7 +20,6 @@ def text_as(file, at, old, new):
 
 
 def files():
-    rng = random.Random(5)
     one = written(np.array([[1, 1, 0, 0, 1]], dtype="<f4"), (1, 0))
     three = np.array([[0.5, 0.25, 0.75], [0.5, 0.25, 1.25], [1, 0.25, 5]], dtype="<f4")
     example = one + written(three, (1, 0))
@@ -32,8 +31,11 @@ def files():
         for first in VERSIONS:
             for second in VERSIONS:
                 for lanes in (1, 2, 3, 8):
+                    # Each file has its own numbers, so that one more kind or version leaves the others as they are.
+                    rng = random.Random(f"{kind} {first} {second} {lanes}")
                     yield written(settings(rng, lanes), first) + written(cells(rng, kind, rng.randint(0, 30), lanes), second)
     # Refusals 11 to 16, on either array.
+    rng = random.Random("both")
     both = written(settings(rng, 2), (1, 0)) + written(cells(rng, "<i2", 3, 2), (2, 0))
     first, second, data = header_ends(both)
     for at in (0, second):
