@@ -22,7 +22,7 @@ use Rattle.rate_pid.specs.declared.slew.Slew.{Slew}
 use Rattle.rate_pid.specs.declared.slew.Slew.the-variants.{On}
 use Rattle.rate_pid.specs.declared.slew.Slewed.{Slewed}
 use Rattle.rate_pid.specs.Slew.{badSlew, setDtSlew, stepSlew}
-use Rattle.rate_pid.specs.RatePid.{slewedOf, filteredOf, dGainOf, refDerivativeOf, measDerivativeOf, calm, calmOf, dampedOf, dampingOf, grownOf, integrated, integratedOf, termsOf, stepRate, totalOf, withSlew, limitRate, tsRate, badRate, changed, updated, callSlew, callSetTs, callUpdate}
+use Rattle.rate_pid.specs.RatePid.{rateOf, slewedOf, filteredOf, dGainOf, refDerivativeOf, measDerivativeOf, calm, calmOf, dampedOf, dampingOf, grownOf, integrated, integratedOf, termsOf, stepRate, totalOf, withSlew, limitRate, tsRate, badRate, changed, updated, callSlew, callSetTs, callUpdate}
 use Rattle.rate_pid.specs.RatePidLaws.{slew-accepted, guard-passed, update-accepted}
 
 -- ---- a limiter whose limit is good does not refuse
@@ -103,20 +103,7 @@ module _ (s : RatePid) where
     limited limit made pid g e1 e2 = simp (slew-accepted s good limit g, e2, e1, new-accepted limit (s .dt) g)
 
     pub timed : (ts : Float) (filter : NthOrderLowpass) (slew : Slew) (pid : RatePid) → filter ≡ setDtLowpass2 (s .«d_lowpass») ts → slew ≡ setDtSlew (s .«d_slew») ts
-        → pid ≡ withSlew (record {
-          kp = s .kp;
-          ki = s .ki;
-          kd = s .kd;
-          integral = s .integral;
-          «prev_meas» = s .«prev_meas»;
-          «prev_ref» = s .«prev_ref»;
-          terms = s .terms;
-          dt = ts;
-          «integral_en» = s .«integral_en»;
-          lowpass = s .lowpass;
-          «d_lowpass» = filter;
-          «d_slew» = s .«d_slew»;
-        }) slew
+        → pid ≡ withSlew (rateOf (s .kp) (s .ki) (s .kd) (s .integral) (s .«prev_meas») (s .«prev_ref») (s .terms) ts (s .«integral_en») (s .lowpass) filter (s .«d_slew»)) slew
         → changed Refusal.None pid ≡ callSetTs s ts
     unfolding callSetTs tsRate withSlew
     timed ts filter slew pid e1 e2 e3 = simp (guard-passed s good, e3, e2, e1)
