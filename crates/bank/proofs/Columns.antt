@@ -9,6 +9,7 @@ use lib.Ieee.{Float, nan}
 use lib.ListN.{getD, set, length, take, drop, length-set, length-drop, take-append-drop}
 use lib.Seq.{take-all, getD-set-same, getD-set-other, getD-take, getD-drop, ext-getD, sets, sets-eq, length-take-le}
 use Rattle.float.specs.F32 as F
+use Rattle.refusal.specs.Cases.{lt-or-le}
 use Rattle.bank.specs.declared.lane.Lane.{Lane}
 use Rattle.bank.specs.declared.lane.Op.{Op}
 use Rattle.bank.specs.declared.lane.Answer.{Answer}
@@ -16,15 +17,14 @@ use Rattle.bank.specs.declared.lane.Stepped.{Stepped}
 use Rattle.bank.specs.declared.Bank.{Bank}
 use Rattle.bank.specs.Lane.{closedLane, ready, laneStep}
 use Rattle.bank.specs.LaneLaws.{idle}
-use Rattle.bank.specs.Bank.{laneAt, put, bankStep}
-use Rattle.bank.specs.BankLaws.{Eight, named}
+use Rattle.bank.specs.Bank.{Eight, laneAt, put, bankStep}
+use Rattle.bank.specs.BankLaws.{named}
 use Rattle.bank.specs.Runs.{For, run, after}
-use Rattle.bank.specs.Rows.{updateCalls, roomFor, rowCalls, Whole, valuesOf, rowsOut, rowsBank}
+use Rattle.bank.specs.Rows.{updateCalls, roomFor, rowsCalls, Whole, valuesOf, rowsOut, rowsBank}
 use Rattle.bank.specs.RowsLaws.{room-is, room-under, values-length, calls-length}
-use Rattle.bank.proofs.Steps.{any}
 use Rattle.bank.specs.Columns.{turnOf, opAt, firstCalls, valueAt, Walked}
-use Rattle.refusal.specs.Cases.{lt-or-le}
 use Rattle.bank.specs.ColumnsLaws.{own-turn, next-turn, between, turn-within, after-eight, first-count, first-next, first-value, first-all, stays}
+use Rattle.bank.proofs.Steps.{any}
 
 -- ---- one lane
 
@@ -176,7 +176,7 @@ module _ (k : ℕ) (cells out₀ : List Float) (n : ℕ) (b₀ : Bank) where
         }
 
     pub columned-all : (lanes : ℕ) → lanes ≡ roomFor k k → lanes ≤ L → (b ≡ rowsBank b₀ k cells out₀) × (out ≡ rowsOut b₀ k cells out₀)
-    unfolding rowsBank rowsOut rowCalls after
+    unfolding rowsBank rowsOut rowsCalls after
     columned-all lanes s h =
         let w = inv .whole in
         let calls = firstCalls k cells n in

@@ -1,8 +1,9 @@
 -- The bank: a call is the lane's step at the lane that it names, and nothing else changes. 8 comes before all else.
-use Prim.Native.Nat.{ℕ}
+use mathlib.Core.Path.{_≡_}
 use mathlib.Core.Bool.{cond}
+use Prim.Native.Nat.{ℕ}
 use lib.Dec.{ltb}
-use lib.ListN.{getD, set, replicate}
+use lib.ListN.{length, getD, set, replicate}
 use Rattle.refusal.specs.declared.Refusal.the-variants as Refusal
 use Rattle.bank.specs.declared.lane.Lane.{Lane}
 use Rattle.bank.specs.declared.lane.Op.{Op}
@@ -14,6 +15,10 @@ use Rattle.bank.specs.Lane.{closedLane, plain, laneStep}
 
 unfoldable pub freshBank : Bank
 freshBank = record { lanes = replicate 8 closedLane }
+
+-- as every bank of the code has
+abbrev pub Eight : Bank → Type 0
+Eight b = length (b .lanes) ≡ 8
 
 -- the lane of that number
 abbrev pub laneAt : Bank → ℕ → Lane

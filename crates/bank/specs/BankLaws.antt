@@ -7,7 +7,7 @@ use native.Mathlib.Omega.{arith}
 use borrow.Author.Tests.{lt-ltb, le-ltb}
 use lib.Dec.{ltb}
 use lib.Ieee.{Float}
-use lib.ListN.{length, length-set, getD-replicate}
+use lib.ListN.{length-set, getD-replicate}
 use lib.Seq.{getD-set-same, getD-set-other, set-getD}
 use Rattle.refusal.specs.declared.Refusal.{Refusal}
 use Rattle.refusal.specs.declared.Refusal.the-variants as Refusal
@@ -18,11 +18,7 @@ use Rattle.bank.specs.declared.lane.Op.the-variants.{Update}
 use Rattle.bank.specs.declared.Bank.{Bank}
 use Rattle.bank.specs.Lane.{closedLane, plain, laneStep}
 use Rattle.bank.specs.LaneLaws.{laneRefusal, step-refusal, step-leaves, lane-frozen}
-use Rattle.bank.specs.Bank.{freshBank, laneAt, banked, placed, bankStep}
-
--- as every bank of the code has
-abbrev pub Eight : Bank → Type 0
-Eight b = length (b .lanes) ≡ 8
+use Rattle.bank.specs.Bank.{freshBank, Eight, laneAt, banked, placed, bankStep}
 
 pub fresh-eight : Eight freshBank
 unfolding freshBank

@@ -16,8 +16,8 @@ use Rattle.bank.specs.Lane.{stepped, laneStep}
 use Rattle.bank.specs.LaneLaws.{BoundedLane, closed-bounded, step-bounded}
 use Rattle.bank.specs.Single.{Single, none, singleStep, singleRun, singleAfter}
 use Rattle.bank.specs.SingleLaws.{laneOf, Good, step-as}
-use Rattle.bank.specs.Bank.{freshBank, laneAt, bankStep}
-use Rattle.bank.specs.BankLaws.{Eight, fresh-eight, fresh-closed, step-eight, named, others}
+use Rattle.bank.specs.Bank.{freshBank, Eight, laneAt, bankStep}
+use Rattle.bank.specs.BankLaws.{fresh-eight, fresh-closed, step-eight, named, others}
 use Rattle.bank.specs.Runs.{For, run, after, ofLane}
 
 -- a lane in which a single controller lies answers as it does and is left as it is, whatever else is called

@@ -23,8 +23,8 @@ use Rattle.bank.specs.declared.lane.SlewLimit.the-variants.{Off}
 use Rattle.bank.specs.declared.lane.Answer.{Answer}
 use Rattle.bank.specs.declared.Bank.{Bank}
 use Rattle.bank.specs.Lane.{plain}
-use Rattle.bank.specs.Bank.{freshBank, laneAt, bankStep}
-use Rattle.bank.specs.BankLaws.{Eight, fresh-eight, fresh-closed}
+use Rattle.bank.specs.Bank.{freshBank, Eight, laneAt, bankStep}
+use Rattle.bank.specs.BankLaws.{fresh-eight, fresh-closed}
 use Rattle.rate_pid.specs.RatePid.{newRate}
 use Rattle.bank.specs.Single.{Single, none, one, newSingle, singleStep, singleRun, singleAfter}
 use Rattle.bank.specs.SingleLaws.{laneOf, Good, step-as}
