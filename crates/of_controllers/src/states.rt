@@ -4,13 +4,12 @@ ghost use Prim.Native.Nat.{_<_};
 use angle_pid::LpFilter;
 use angle_pid::Pid;
 use angle_pid::Range;
-use filters::SlewRate;
 use of_filters::states;
 use rate_pid::PidTerms;
 use rate_pid::RatePid;
 use rate_pid::Slew;
 
-// Three numbers in a row, as a range's and a slew limiter's are.
+// Three numbers in a row, as gains are.
 fn put_three(w: &mut [u32], at: usize, a: f32, b: f32, c: f32)
     requires { ⌜ at < 4096 ⌝ }
 {
@@ -112,11 +111,7 @@ pub(crate) fn put_pid(w: &mut [u32], at: usize, p: Pid)
 fn slew_at(w: &[u32], at: usize) -> Slew
     requires { ⌜ at < 4000 ⌝ }
 {
-    let limiter = SlewRate {
-        rate_limit: told::number(w, at + 1),
-        signal: told::number(w, at + 2),
-        dt: told::number(w, at + 3),
-    };
+    let limiter = states::slew_rate_at(w, at + 1);
     if told::word(w, at) == 1 {
         Slew::On(limiter)
     } else {
@@ -132,9 +127,9 @@ fn put_slew(w: &mut [u32], at: usize, s: Slew)
             told::put_word(w, at, 0);
             put_three(w, at + 1, 0.0, 0.0, 0.0);
         }
-        Slew::On(l) => {
+        Slew::On(limiter) => {
             told::put_word(w, at, 1);
-            put_three(w, at + 1, l.rate_limit, l.signal, l.dt);
+            states::put_slew_rate(w, at + 1, limiter);
         }
     }
 }

@@ -96,9 +96,14 @@ pub(crate) fn put_integrating_complementary(w: &mut [u32], at: usize, f: Integra
     told::put_number(w, at + 3, f.y_prev);
 }
 
-pub(crate) fn slew_rate_at(w: &[u32], at: usize) -> SlewRate
-    requires { ⌜ at < 4096 ⌝ }
-{
+pub fn slew_rate_at(w: &[u32], at: usize) -> SlewRate {
+    if 4095 < at {
+        return SlewRate {
+            rate_limit: 0.0,
+            signal: 0.0,
+            dt: 0.0,
+        };
+    }
     SlewRate {
         rate_limit: told::number(w, at),
         signal: told::number(w, at + 1),
@@ -106,9 +111,10 @@ pub(crate) fn slew_rate_at(w: &[u32], at: usize) -> SlewRate
     }
 }
 
-pub(crate) fn put_slew_rate(w: &mut [u32], at: usize, f: SlewRate)
-    requires { ⌜ at < 4096 ⌝ }
-{
+pub fn put_slew_rate(w: &mut [u32], at: usize, f: SlewRate) {
+    if 4095 < at {
+        return;
+    }
     told::put_number(w, at, f.rate_limit);
     told::put_number(w, at + 1, f.signal);
     told::put_number(w, at + 2, f.dt);
