@@ -4,9 +4,6 @@ ghost use lib.ListN.{length};
 use told::Told;
 use told::text;
 
-// As many operands as a line has room for, and as many results.
-const WORDS: usize = 224;
-
 // A word of 8 digits, or none.
 struct Word {
     ok: bool,
@@ -132,8 +129,8 @@ fn tell_line(line: &[u8], ops: &mut [u32], states: &mut [u32], res: &mut [u32]) 
 
 // Writes the answer to a line from a place of out on, and answers the next place.
 pub(crate) fn answer(line: &[u8], states: &mut [u32], out: &mut [u8], at: usize) -> usize {
-    let mut ops = [0u32; WORDS];
-    let mut res = [0u32; WORDS];
+    let mut ops = [0u32; told::WORDS];
+    let mut res = [0u32; told::WORDS];
     answer_in(line, &mut ops, states, &mut res, out, at)
 }
 

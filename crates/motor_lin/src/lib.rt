@@ -85,7 +85,7 @@ fn motor_at(a: f32, b: f32, min: Command, max: Command) -> MotorLin
 
 impl MotorLin {
     // Whether a limit does not hold: as stored, whoever made the motor.
-    fn is_bad(self) -> bool
+    fn bad(self) -> bool
         ensures { λ r. ⌜ r ≡ badMotor self ⌝ }
     {
         let c_min = self.c_min;
@@ -102,7 +102,7 @@ impl MotorLin {
         ensures { λ r. ⌜ r ≡ newMotorLin a b min max ⌝ }
     {
         let motor = motor_at(a, b, min, max);
-        if motor.is_bad() {
+        if motor.bad() {
             let refusal = Refusal::Motor;
             let none = zero();
             return Made {
@@ -117,7 +117,7 @@ impl MotorLin {
     pub fn command_to_force(self, command: Command) -> Forced
         ensures { λ r. ⌜ r ≡ commandToForce self command ⌝ }
     {
-        if self.is_bad() {
+        if self.bad() {
             let refusal = Refusal::Motor;
             let force = Thrust(0.0);
             return Forced { refusal, force };
@@ -132,7 +132,7 @@ impl MotorLin {
     pub fn force_to_command(self, force: Thrust) -> Commanded
         ensures { λ r. ⌜ r ≡ forceToCommand self force ⌝ }
     {
-        if self.is_bad() {
+        if self.bad() {
             let refusal = Refusal::Motor;
             let command = Command(0.0);
             return Commanded { refusal, command };
@@ -147,7 +147,7 @@ impl MotorLin {
     pub fn min_force(self) -> Forced
         ensures { λ r. ⌜ r ≡ minForce self ⌝ }
     {
-        if self.is_bad() {
+        if self.bad() {
             let refusal = Refusal::Motor;
             let force = Thrust(0.0);
             return Forced { refusal, force };
@@ -160,7 +160,7 @@ impl MotorLin {
     pub fn max_force(self) -> Forced
         ensures { λ r. ⌜ r ≡ maxForce self ⌝ }
     {
-        if self.is_bad() {
+        if self.bad() {
             let refusal = Refusal::Motor;
             let force = Thrust(0.0);
             return Forced { refusal, force };

@@ -27,7 +27,7 @@ fn tell_bank(name: &[u8], ops: &[u32], states: &mut [u32], res: &mut [u32]) -> T
     if told::is(name, b"bank.show", ops, 1) {
         return lanes::show(states, lane, res);
     }
-    if told::is_on(name, b"bank.state", ops, 33, 1) {
+    if told::is_with_bool(name, b"bank.state", ops, 33, 1) {
         return lanes::set(states, lane, ops);
     }
     let t = on_bank(name, ops, lane, lanes::bank_at(states));
@@ -101,7 +101,7 @@ fn of_one(name: &[u8], ops: &[u32], lane: usize, b: Bank) -> BankTold {
     if told::same(name, b"bank.set_ts") {
         return answered(b.set_ts(lane, told::number(ops, 1)), 0);
     }
-    if told::is_on(name, b"bank.enable_integral", ops, 2, 1) {
+    if told::is_with_bool(name, b"bank.enable_integral", ops, 2, 1) {
         return answered(b.enable_integral(lane, on), 0);
     }
     nothing(b)

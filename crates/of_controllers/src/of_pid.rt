@@ -110,10 +110,10 @@ fn of_one(name: &[u8], ops: &[u32], pid: Pid) -> PidTold {
 
 fn of_switch(name: &[u8], ops: &[u32], pid: Pid) -> PidTold {
     let on = told::word(ops, 0) == 1;
-    if told::is_on(name, b"pid.enable_integral", ops, 1, 0) {
+    if told::is_with_bool(name, b"pid.enable_integral", ops, 1, 0) {
         return made(pid.enable_integral(on));
     }
-    if told::is_on(name, b"pid.enable_reset_integral", ops, 1, 0) {
+    if told::is_with_bool(name, b"pid.enable_reset_integral", ops, 1, 0) {
         return made(pid.enable_reset_integral(on));
     }
     nothing(pid)
@@ -150,7 +150,7 @@ fn of_three(name: &[u8], ops: &[u32], pid: Pid) -> PidTold {
 
 fn of_five(name: &[u8], ops: &[u32], pid: Pid) -> PidTold {
     let ideal = told::word(ops, 3) == 1;
-    if told::is_on(name, b"pid.new", ops, 5, 3) {
+    if told::is_with_bool(name, b"pid.new", ops, 5, 3) {
         return taken(Pid::new(
             told::number(ops, 0),
             told::number(ops, 1),
@@ -203,7 +203,7 @@ fn config_of(ops: &[u32]) -> PidConfig {
 
 fn of_config(name: &[u8], ops: &[u32], pid: Pid) -> PidTold {
     if four_bools(ops, 4, 7, 10, 13) {
-        if told::is_on(name, b"pid.with_config", ops, 16, 3) {
+        if told::is_with_bool(name, b"pid.with_config", ops, 16, 3) {
             return made(Pid::with_config(config_of(ops), told::number(ops, 15)));
         }
     }
@@ -212,7 +212,7 @@ fn of_config(name: &[u8], ops: &[u32], pid: Pid) -> PidTold {
 
 fn of_state(name: &[u8], ops: &[u32], pid: Pid) -> PidTold {
     if four_bools(ops, 7, 10, 13, 16) {
-        if told::is_on(name, b"pid.state", ops, 22, 5) {
+        if told::is_with_bool(name, b"pid.state", ops, 22, 5) {
             return taken(states::pid_at(ops, 0));
         }
     }

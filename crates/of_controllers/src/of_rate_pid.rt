@@ -92,10 +92,10 @@ fn of_one(name: &[u8], ops: &[u32], pid: RatePid) -> RatePidTold {
     if told::same(name, b"rate_pid.set_ts") {
         return changed(pid.set_ts(x));
     }
-    if told::is_on(name, b"rate_pid.enable_integral", ops, 1, 0) {
+    if told::is_with_bool(name, b"rate_pid.enable_integral", ops, 1, 0) {
         return changed(pid.enable_integral(on));
     }
-    if told::is_on(name, b"rate_pid.enable_reset_integral", ops, 1, 0) {
+    if told::is_with_bool(name, b"rate_pid.enable_reset_integral", ops, 1, 0) {
         return changed(pid.enable_reset_integral(on));
     }
     nothing(pid)
@@ -132,7 +132,7 @@ fn of_five(name: &[u8], ops: &[u32], pid: RatePid) -> RatePidTold {
 
 fn of_state(name: &[u8], ops: &[u32], pid: RatePid) -> RatePidTold {
     if told::word(ops, 27) < 2 {
-        if told::is_on(name, b"rate_pid.state", ops, 31, 11) {
+        if told::is_with_bool(name, b"rate_pid.state", ops, 31, 11) {
             return taken(states::rate_pid_at(ops, 0));
         }
     }

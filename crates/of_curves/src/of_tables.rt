@@ -1,14 +1,11 @@
 // The table lookup: crate linear_lut.
 use told::Told;
 
-// As many numbers as a line has room for.
-const RUN: usize = 224;
-
 pub(crate) fn tell(ops: &[u32], res: &mut [u32]) -> Told {
     if ops.len() == 0 {
         return Told::Nothing;
     }
-    let mut run = [0.0f32; RUN];
+    let mut run = [0.0f32; told::WORDS];
     look(ops, res, &mut run)
 }
 

@@ -27,7 +27,7 @@ pub(crate) fn tell(name: &[u8], ops: &[u32], states: &mut [u32], res: &mut [u32]
 }
 
 fn on_statistics(name: &[u8], ops: &[u32], s: Statistics) -> StatisticsTold {
-    if told::is_on(name, b"statistics.state", ops, 4, 0) {
+    if told::is_with_bool(name, b"statistics.state", ops, 4, 0) {
         let told = Told::Answer(0, 0);
         let next = states::statistics_at(ops, 0);
         return StatisticsTold {

@@ -11,7 +11,7 @@ use lib.Ieee.Bits.{ofBits-toBits}
 use Rattle.float.specs.F32 as F
 use Rattle.float.specs.FloatLaws.{above-zero}
 use Rattle.root.specs.Root.{root, rootBits, middle, fourfold}
-use Rattle.root.specs.RootTheorem.{IsRoot, root-is}
+use Rattle.root.specs.RootTheorem.{IsRoot, is-root}
 use Rattle.root.specs.RootTies.{rule-unique}
 use Rattle.root.specs.Values.{finite-bits, low-bits, some-bits}
 
@@ -59,6 +59,6 @@ root-rule m e fit =
       y = rootBits b;
       x-is = ofBits-toBits binary32 x fit;
       root-is = refl;
-      rule = root-is b B (finite-bits m e fit);
+      rule = is-root b B (finite-bits m e fit);
       only = λ z h k. rule-unique b z B (low-bits m e fit) h k;
     }

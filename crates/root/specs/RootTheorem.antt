@@ -44,8 +44,8 @@ some-root b zero B N =
     absurd (lt-irrefl 1 (lt-of-lt-of-le (lit< {m = 1} {n = 4 * 1 * 2 ^ 149} tt) (le-trans m (le-of-lt a))))
 some-root b (suc y) B N = omega arith
 
-pub root-is : (b : ℕ) → 0 < b → b < 255 * 2 ^ 23 → IsRoot b (rootBits b)
-root-is b B h =
+pub is-root : (b : ℕ) → 0 < b → b < 255 * 2 ^ 23 → IsRoot b (rootBits b)
+is-root b B h =
     let y = rootBits b in
     let N : Nearest (fourfold b) y = root-nearest b (omega arith) in
     let F : y < 254 * 2 ^ 23 = root-finite b (omega arith) in

@@ -4,6 +4,9 @@ pub mod text;
 
 use refusal::Refusal;
 
+// As many operands as a line has room for, and as many results.
+pub const WORDS: usize = 224;
+
 pub enum Told {
     // The line is none of this part's: another name, or other operands than the call of that name takes.
     Nothing,
@@ -35,7 +38,7 @@ pub fn is(name: &[u8], w: &[u8], ops: &[u32], count: usize) -> bool {
 }
 
 // The same for a call whose operand i is a bool.
-pub fn is_on(name: &[u8], w: &[u8], ops: &[u32], count: usize, i: usize) -> bool {
+pub fn is_with_bool(name: &[u8], w: &[u8], ops: &[u32], count: usize, i: usize) -> bool {
     if 1 < word(ops, i) {
         return false;
     }

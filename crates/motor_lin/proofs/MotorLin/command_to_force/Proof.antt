@@ -5,12 +5,12 @@ use borrow.Author.Needs.{needs}
 use Rattle.motor_lin.proofs.MotorLin.command_to_force.Statement.{statement}
 use Rattle.motor_lin.proofs.MotorLin.command_to_force.Tie as tie
 
-is-bad-requires : tie.Need-is-bad-requires
-is-bad-requires c κs = search needs
+bad-requires : tie.Need-bad-requires
+bad-requires c κs = search needs
 
 returns : tie.Need-returns
 unfolding commandToForce inForce thrust
-returns c = when-true _ _ _ (sym (c .before .is-bad .ensures) ∙ c .if1 .taken)
+returns c = when-true _ _ _ (sym (c .before .bad .ensures) ∙ c .if1 .taken)
 
 thrust-of-requires : tie.Need-thrust-of-requires
 thrust-of-requires c κs = search needs
@@ -19,7 +19,7 @@ returns-2 : tie.Need-returns-2
 unfolding commandToForce inForce thrust
 returns-2 c =
     let at-if = c .before .before .before in
-    rw (c .thrust-of .ensures) (when-false _ _ _ (sym (at-if .before .is-bad .ensures) ∙ at-if .if1 .left))
+    rw (c .thrust-of .ensures) (when-false _ _ _ (sym (at-if .before .bad .ensures) ∙ at-if .if1 .left))
 
 pub command-to-force-spec : {M : Type 1} → statement M
-command-to-force-spec = tie.close (tie.spec is-bad-requires returns thrust-of-requires returns-2)
+command-to-force-spec = tie.close (tie.spec bad-requires returns thrust-of-requires returns-2)

@@ -5,16 +5,16 @@ use borrow.Author.Needs.{needs}
 use Rattle.motor_lin.proofs.MotorLin.min_force.Statement.{statement}
 use Rattle.motor_lin.proofs.MotorLin.min_force.Tie as tie
 
-is-bad-requires : tie.Need-is-bad-requires
-is-bad-requires c κs = search needs
+bad-requires : tie.Need-bad-requires
+bad-requires c κs = search needs
 
 returns : tie.Need-returns
 unfolding minForce inForce thrust
-returns c = when-true _ _ _ (sym (c .before .is-bad .ensures) ∙ c .if1 .taken)
+returns c = when-true _ _ _ (sym (c .before .bad .ensures) ∙ c .if1 .taken)
 
 returns-2 : tie.Need-returns-2
 unfolding minForce inForce
-returns-2 c = when-false _ _ _ (sym (c .before .before .is-bad .ensures) ∙ c .before .if1 .left)
+returns-2 c = when-false _ _ _ (sym (c .before .before .bad .ensures) ∙ c .before .if1 .left)
 
 pub min-force-spec : {M : Type 1} → statement M
-min-force-spec = tie.close (tie.spec is-bad-requires returns returns-2)
+min-force-spec = tie.close (tie.spec bad-requires returns returns-2)

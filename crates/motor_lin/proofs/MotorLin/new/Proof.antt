@@ -8,8 +8,8 @@ use Rattle.motor_lin.proofs.MotorLin.new.Tie as tie
 motor-at-requires : tie.Need-motor-at-requires
 motor-at-requires c κs = search needs
 
-is-bad-requires : tie.Need-is-bad-requires
-is-bad-requires c κs = search needs
+bad-requires : tie.Need-bad-requires
+bad-requires c κs = search needs
 
 zero-requires : tie.Need-zero-requires
 zero-requires c κs = search needs
@@ -18,13 +18,13 @@ returns : tie.Need-returns
 unfolding newMotorLin
 returns c =
     let m = c .before .before .before .motor-at .ensures in
-    rw (c .zero .ensures) (when-true _ _ _ (ap badMotor (sym m) ∙ sym (c .before .before .is-bad .ensures) ∙ c .before .if1 .taken))
+    rw (c .zero .ensures) (when-true _ _ _ (ap badMotor (sym m) ∙ sym (c .before .before .bad .ensures) ∙ c .before .if1 .taken))
 
 returns-2 : tie.Need-returns-2
 unfolding newMotorLin
 returns-2 c =
     let m = c .before .before .motor-at .ensures in
-    rw m (when-false _ _ _ (ap badMotor (sym m) ∙ sym (c .before .is-bad .ensures) ∙ c .if1 .left))
+    rw m (when-false _ _ _ (ap badMotor (sym m) ∙ sym (c .before .bad .ensures) ∙ c .if1 .left))
 
 pub new-spec : {M : Type 1} → statement M
-new-spec = tie.close (tie.spec motor-at-requires is-bad-requires zero-requires returns returns-2)
+new-spec = tie.close (tie.spec motor-at-requires bad-requires zero-requires returns returns-2)

@@ -1,7 +1,7 @@
 use Rattle.refusal.specs.Cases.{first-fails, first-holds}
 use Rattle.motor_lin.specs.MotorLin.{badMotor}
-use Rattle.motor_lin.proofs.MotorLin.is_bad.Statement.{statement}
-use Rattle.motor_lin.proofs.MotorLin.is_bad.Tie as tie
+use Rattle.motor_lin.proofs.MotorLin.bad.Statement.{statement}
+use Rattle.motor_lin.proofs.MotorLin.bad.Tie as tie
 
 returns : tie.Need-returns
 unfolding badMotor
@@ -11,5 +11,5 @@ returns-2 : tie.Need-returns-2
 unfolding badMotor
 returns-2 c = first-fails _ _ (c .if1 .left)
 
-pub is-bad-spec : {M : Type 1} → statement M
-is-bad-spec = tie.close (tie.spec returns returns-2)
+pub bad-spec : {M : Type 1} → statement M
+bad-spec = tie.close (tie.spec returns returns-2)
