@@ -1,4 +1,4 @@
-// A first order low pass. It accepts every number. In memory y and the coefficients stand apart, for speed (docs/DECISIONS.md).
+// A first order low pass. It accepts every number. In memory the two coefficients stand apart, for speed (docs/DECISIONS.md).
 ghost use mathlib.Core.Path.{_≡_};
 ghost use Rattle.filters.specs.Lowpass.{lowpassOf, newLowpass, setDtLowpass, setTauLowpass, stepLowpass};
 
