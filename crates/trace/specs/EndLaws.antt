@@ -1,5 +1,5 @@
 -- The end of a text: a line is written whole or not at all. Assumes nothing.
-use mathlib.Core.Path.{_≡_, refl, ap, _∙_}
+use mathlib.Core.Path.{_≡_, refl, _∙_}
 use mathlib.Core.List.{List, [], _∷_, _++_}
 use Prim.Native.Nat.{ℕ, _+_, _/_, _%_, _≤_, _<_}
 use native.Mathlib.Numerals.{add-one}
@@ -8,12 +8,9 @@ use borrow.Author.Tests.{lt-ltb, le-ltb, le-leb, lt-leb}
 use lib.ListN.{length, getD, set, drop, drop-of-length-le}
 use lib.Seq.{sets, drop-cons}
 use Rattle.refusal.specs.declared.Refusal.{Refusal}
-use Rattle.refusal.specs.declared.Refusal.the-variants as Refusal
 use Rattle.refusal.specs.declared.Refusal.the-variants.{None, Range, Tau, Slew, Alpha, Points, Steps, Motor, Lane, Closed, Open, Magic, Header, Kind, Shape, Cut, Rest, RowSum, Window}
 use Rattle.refusal.specs.Refusal.{numberOf}
-use Rattle.trace.specs.declared.course.Course.{Course}
-use Rattle.trace.specs.Trace.{digits, refusedWord, refusedLine, endText}
-use Rattle.trace.specs.TraceLaws as T
+use Rattle.trace.specs.Trace.{digits, refusedWord, refusedLine}
 use Rattle.trace.specs.Slices.{wrote, wroteCount}
 
 -- ---- a text written byte by byte
@@ -82,18 +79,3 @@ module _ (why : Refusal) (n : ℕ) (e : n ≡ numberOf why) (out : List ℕ) whe
   pub two-whole : (out′ : List ℕ) → 10 ≤ n → 11 ≤ length out → out′ ≡ sets out 0 refusedWord
       → (11 ≡ wroteCount out (refusedLine why)) × (set (set (set out′ 8 (n / 10 + 48)) 9 (n % 10 + 48)) 10 10 ≡ wrote out (refusedLine why))
   two-whole out′ h g e′ = rw (two-digits why n e h) (wrote-all out (refusedWord ++ ((n / 10 + 48) ∷ (n % 10 + 48) ∷ 10 ∷ [])) 11 _ refl g (rw e′))
-
--- ---- after the last row
-
-module _ (c : Course) (rest : List ℕ) where
-  pub end-cut : 0 < c .left → endText (c .left) rest ≡ refusedLine Refusal.Cut
-  end-cut h = T.end-cut (c .left) rest h
-
-  end-over : c .left ≤ 0 → endText (c .left) rest ≡ endText 0 rest
-  end-over h = let e : c .left ≡ 0 = omega arith in ap (λ (n : ℕ). endText n rest) e
-
-  pub end-rest : c .left ≤ 0 → 0 < length rest → endText (c .left) rest ≡ refusedLine Refusal.Rest
-  end-rest h g = end-over h ∙ T.end-rest rest g
-
-  pub end-none : c .left ≤ 0 → length rest ≤ 0 → endText (c .left) rest ≡ []
-  end-none h g = end-over h ∙ T.end-none rest (omega arith)

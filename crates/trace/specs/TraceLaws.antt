@@ -95,16 +95,18 @@ end-cut zero s h = absurd (omega arith)
 end-cut (suc n) s h = refl
 
 -- 16 where there are bytes after the last row
-pub end-rest : (s : List ℕ) → 0 < length s → endText 0 s ≡ refusedLine Refusal.Rest
+pub end-rest : (n : ℕ) (s : List ℕ) → n ≤ 0 → 0 < length s → endText n s ≡ refusedLine Refusal.Rest
 unfolding endText restText
-end-rest [] h = absurd (omega arith)
-end-rest (x ∷ xs) h = refl
+end-rest zero [] h g = absurd (omega arith)
+end-rest zero (x ∷ xs) h g = refl
+end-rest (suc n) s h g = absurd (omega arith)
 
 -- else nothing
-pub end-none : (s : List ℕ) → length s ≡ 0 → endText 0 s ≡ []
+pub end-none : (n : ℕ) (s : List ℕ) → n ≤ 0 → length s ≤ 0 → endText n s ≡ []
 unfolding endText restText
-end-none [] h = refl
-end-none (x ∷ xs) h = absurd (omega arith)
+end-none zero [] h g = refl
+end-none zero (x ∷ xs) h g = absurd (omega arith)
+end-none (suc n) s h g = absurd (omega arith)
 
 -- there is no whole row to print: none is left, or the bytes are too few for one
 abbrev pub Spent : Course → List ℕ → Type 0
@@ -323,6 +325,5 @@ accepted-all s a = record { under = omega arith; fits = omega (arith, a .rows); 
 pub accepted-text : (s : List ℕ) → Accepted s → replayOf s ≡ nextRows (startOf s .course .left) (startOf s .course) (rowsOf s)
 accepted-text s a =
     let c = startOf s .course in
-    let e : c .left - c .left ≡ 0 = omega arith in
-    let none : length (drop (c .left * rowWidth c) (rowsOf s)) ≡ 0 = rw length-drop (omega (arith, a .rows)) in
-    accepted-prints s (c .left) (a .start) (accepted-all s a) ∙ rw (e, end-none (drop (c .left * rowWidth c) (rowsOf s)) none, append-nil)
+    accepted-prints s (c .left) (a .start) (accepted-all s a)
+    ∙ rw (end-none (c .left - c .left) (drop (c .left * rowWidth c) (rowsOf s)) (omega arith) (rw length-drop (omega (arith, a .rows))), append-nil)

@@ -90,7 +90,7 @@ windows-theorem (w ∷ ws) c kept a =
 -- a reader need not read to the end: one byte after the last row is known to be refused
 pub rest-known : (c : Course) (kept more : List ℕ) → c .left ≡ 0 → 0 < length kept → courseText c (kept ++ more) ≡ refusedLine Refusal.Rest
 rest-known c kept more e h =
-    spent-text c (kept ++ more) (inl e) ∙ ap (λ (n : ℕ). endText n (kept ++ more)) e ∙ end-rest (kept ++ more) (rw length-append (omega arith))
+    spent-text c (kept ++ more) (inl e) ∙ end-rest (c .left) (kept ++ more) (omega arith) (rw length-append (omega arith))
 
 -- a reader that prints all the rows it holds, each time
 unfoldable pub atOnce : Course → List ℕ → List (List ℕ) → List Window
