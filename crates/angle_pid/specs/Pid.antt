@@ -1,11 +1,10 @@
 -- `Pid` wraps, then P, D, low pass, anti-windup, output limit.
 use mathlib.Core.Bool.{Bool, true, false, cond, _&&_}
 use Prim.Native.Nat.{ℕ}
-use lib.Dec.{eqb}
 use lib.Ieee.{Float}
 use Rattle.float.specs.F32 as F
 use Rattle.float.specs.F32.{_+f_, _-f_, _*f_, _/f_}
-use Rattle.refusal.specs.Refusal.{numberOf}
+use Rattle.refusal.specs.Refusal.{passes}
 use Rattle.refusal.specs.declared.Refusal.{Refusal}
 use Rattle.refusal.specs.declared.Refusal.the-variants as Refusal
 use Rattle.func.specs.declared.Wrapped.{Wrapped}
@@ -25,9 +24,6 @@ use Rattle.angle_pid.specs.Range.{rangeRefusal, wrapError, shifted, admi
 use Rattle.angle_pid.specs.LpFilter.{tauRefusal, newLpFilter, storedTau, stepLpFilter}
 
 -- ---- what is refused
-
-unfoldable pub passes : Refusal → Bool
-passes why = eqb (numberOf why) 0
 
 -- the first of two refusals
 unfoldable pub first : Refusal → Refusal → Refusal

@@ -6,6 +6,7 @@ use lib.Ieee.{Float, nan, lt}
 use Rattle.float.specs.F32 as F
 use Rattle.float.specs.F32.{_+f_, _-f_, _*f_}
 use Rattle.float.specs.FloatLaws.{clamp-nan}
+use Rattle.refusal.specs.Refusal.{passes}
 use Rattle.refusal.specs.declared.Refusal.{Refusal}
 use Rattle.refusal.specs.declared.Refusal.the-variants as Refusal
 use Rattle.func.specs.declared.Wrapped.{Wrapped}
@@ -22,7 +23,7 @@ use Rattle.angle_pid.specs.declared.pid.PidConfig.{PidConfig}
 use Rattle.angle_pid.specs.declared.pid.PidMade.{PidMade}
 use Rattle.angle_pid.specs.Range.{rangeRefusal, wrapError, admits, limited}
 use Rattle.angle_pid.specs.LpFilter.{newLpFilter, storedTau, stepLpFilter}
-use Rattle.angle_pid.specs.Pid.{passes, first, partsRefusal, pidRefusal, configRefusal, zeroPid, withParts, configured, movedIntegral, proportional, derivative, grown, nextIntegral, stepPid, kept, withConfigPid, setWrappingPid, setOutputLimitPid, setAntiWindupPid, setLpFilterPid, setGainsPid, resetIntegralPid, resetIntegralToPid, enableIntegralPid, enableResetIntegralPid, updated, afterWrap, updateTsPid}
+use Rattle.angle_pid.specs.Pid.{first, partsRefusal, pidRefusal, configRefusal, zeroPid, withParts, configured, movedIntegral, proportional, derivative, grown, nextIntegral, stepPid, kept, withConfigPid, setWrappingPid, setOutputLimitPid, setAntiWindupPid, setLpFilterPid, setGainsPid, resetIntegralPid, resetIntegralToPid, enableIntegralPid, enableResetIntegralPid, updated, afterWrap, updateTsPid}
 
 -- ---- a refused call leaves the state, and a refused constructor gives the all-zero one
 

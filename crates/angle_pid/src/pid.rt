@@ -55,7 +55,7 @@ struct PidStepped {
 fn first(a: Refusal, b: Refusal) -> Refusal
     ensures { λ r. ⌜ r ≡ first a b ⌝ }
 {
-    if a.number() == 0 { b } else { a }
+    if a.passes() { b } else { a }
 }
 
 fn parts_refusal(wrapping: Range, output_limit: Range, anti_windup: Range, tau: Tau) -> Refusal
@@ -172,7 +172,7 @@ impl Pid {
     fn keep(self, why: Refusal, next: Pid) -> PidMade
         ensures { λ r. ⌜ r ≡ kept why self next ⌝ }
     {
-        if why.number() == 0 {
+        if why.passes() {
             let refusal = Refusal::None;
             return PidMade { refusal, pid: next };
         }
@@ -297,7 +297,7 @@ impl Pid {
         ensures { λ r. ⌜ r ≡ updateTsPid self error ts ⌝ }
     {
         let why = self.refusal();
-        if why.number() != 0 {
+        if !why.passes() {
             return PidUpdated {
                 refusal: why,
                 y: 0.0,
@@ -308,7 +308,7 @@ impl Pid {
         let wrapping = self.wrapping;
         let wrapped = wrapping.wrap(error);
         let refusal = wrapped.refusal;
-        if refusal.number() != 0 {
+        if !refusal.passes() {
             return PidUpdated {
                 refusal,
                 y: 0.0,

@@ -6,7 +6,7 @@ use lib.ListN.{length, getD, take, drop}
 use lib.Dec.{leb, eqb}
 use Rattle.refusal.specs.declared.Refusal.{Refusal}
 use Rattle.refusal.specs.declared.Refusal.the-variants as Refusal
-use Rattle.refusal.specs.Refusal.{numberOf}
+use Rattle.refusal.specs.Refusal.{passes}
 use Rattle.npy.specs.Text.{begins, decimal, kindOf, kindEnd, rowsAt, rowsEnd, colsAt, colsEnd, placesOf, spelled}
 use Rattle.npy.specs.declared.reader.Kind.{Kind}
 use Rattle.npy.specs.declared.reader.Kind.the-variants.{F4, I2, Other}
@@ -30,7 +30,7 @@ unfoldable pub acceptedHead : Kind → ℕ → ℕ → ℕ → Head
 acceptedHead k r c at = record { refusal = Refusal.None; kind = k; rows = r; cols = c; at = at }
 
 abbrev pub accepted : Head → Bool
-accepted h = eqb (numberOf (h .refusal)) 0
+accepted h = passes (h .refusal)
 
 -- the header whose text is t, and whose data begin at a place
 unfoldable pub textHead : List ℕ → ℕ → Head

@@ -12,7 +12,7 @@ use Rattle.refusal.specs.Cases.{lt-or-le}
 use mathlib.Core.Bool.{Bool, true, false, cond, _&&_}
 use borrow.Author.Tests.{le-leb, lt-leb, leb-true, eq-eqb, ne-eqb, eqb-true}
 use Rattle.refusal.specs.declared.Refusal.{Refusal}
-use Rattle.refusal.specs.Refusal.{numberOf}
+use Rattle.refusal.specs.Refusal.{passes}
 use Rattle.refusal.specs.declared.Refusal.the-variants as Refusal
 use Rattle.npy.specs.declared.reader.Kind.{Kind}
 use Rattle.npy.specs.declared.reader.Head.{Head}
@@ -160,14 +160,13 @@ pub by-width : (s : List ℕ) (w : ℕ) → w ≡ widthOf s → (w ≡ 0 → ⊥
 unfolding headerOf
 by-width s w h e = rw (← h, ne-eqb w 0 e)
 
-pub data-refused : (s : List ℕ) (h : Head) (n : ℕ) → h ≡ headerOf s → n ≡ numberOf (h .refusal) → (n ≡ 0 → ⊥) → [] ≡ dataOf s
+pub data-refused : (s : List ℕ) (h : Head) (t : Bool) → h ≡ headerOf s → t ≡ accepted h → t ≡ false → [] ≡ dataOf s
 unfolding dataOf
-data-refused s h n e hn g = rw (← e, ← hn, ne-eqb n 0 g)
+data-refused s h t e et g = rw (← e, ← et, g)
 
-pub data-given : (s : List ℕ) (h : Head) (n : ℕ) → h ≡ headerOf s → n ≡ numberOf (h .refusal) → n ≡ 0
-    → take (length s - h .at) (drop (h .at) s) ≡ dataOf s
+pub data-given : (s : List ℕ) (h : Head) (t : Bool) → h ≡ headerOf s → t ≡ accepted h → t ≡ true → take (length s - h .at) (drop (h .at) s) ≡ dataOf s
 unfolding dataOf
-data-given s h n e hn g = to-end s (h .at) ∙ rw (← e, ← hn, eq-eqb n 0 g)
+data-given s h t e et g = to-end s (h .at) ∙ rw (← e, ← et, g)
 
 -- a header that is refused says nothing else
 abbrev Bare : Head → Type 0
@@ -182,7 +181,7 @@ unfolding refusedHead
 bare-refused r h = refl
 
 bare-accepted : (k : Kind) (r c at : ℕ) → Bare (acceptedHead k r c at)
-unfolding acceptedHead
+unfolding acceptedHead passes
 bare-accepted k r c at h = let z : true ≡ false = h in (cc)
 
 bare-text : (t : List ℕ) (at : ℕ) → Bare (textHead t at)
@@ -198,11 +197,9 @@ refused-is s =
     (bare-text (take (textLength (widthOf s) s) (drop (8 + widthOf s) s)) (8 + widthOf s + textLength (widthOf s) s))
     (bare-refused Refusal.Header))
 
-pub refused-at : (s : List ℕ) (h : Head) (n : ℕ) → h ≡ headerOf s → n ≡ numberOf (h .refusal) → (n ≡ 0 → ⊥) → headerOf s .at ≡ 0
+pub refused-at : (s : List ℕ) (h : Head) (t : Bool) → h ≡ headerOf s → t ≡ accepted h → t ≡ false → headerOf s .at ≡ 0
 unfolding refusedHead
-refused-at s h n e hn g =
-    let a : accepted (headerOf s) ≡ false = rw (← e, ← hn) (ne-eqb n 0 g) in
-    ap (λ (x : Head). x .at) (refused-is s a)
+refused-at s h t e et g = ap (λ (x : Head). x .at) (refused-is s (rw (← e, ← et) g))
 
 pub short : (s : List ℕ) (b n : ℕ) → n ≤ 1000 → length (take (b + n - b) (drop b s)) ≤ 1000
 short s b n h = rw (add-sub-cancel-left, length-take) (omega (arith, min-le-left n (length (drop b s))))

@@ -12,6 +12,7 @@ use lib.Dec.{leb, eqb, lit<}
 use borrow.Author.Tests.{le-leb, lt-leb, leb-true, eqb-false}
 use Rattle.refusal.specs.declared.Refusal.{Refusal}
 use Rattle.refusal.specs.declared.Refusal.the-variants as Refusal
+use Rattle.refusal.specs.Refusal.{passes}
 use Rattle.npy.specs.declared.reader.Head.{Head}
 use Rattle.npy.specs.Text.{begins, within, isDigit, lead, endOf, decimal, rowsAt, rowsEnd, colsAt, colsEnd, placesOf, spelled}
 use Rattle.refusal.specs.Cases.{lt-or-le}
@@ -41,7 +42,7 @@ kept true x y e h = sym h ∙ e
 kept false x y e h = refl
 
 pub accepted-parts : (s : List ℕ) → accepted (headerOf s) ≡ true → Accepted s
-unfolding headerOf headerW textHead refusedHead
+unfolding headerOf headerW textHead refusedHead passes
 accepted-parts s h =
     let w = widthOf s in
     let n = textLength (widthOf s) s in

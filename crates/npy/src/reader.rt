@@ -373,7 +373,7 @@ pub fn data(bytes: &[u8]) -> &[u8]
     let h = header(bytes);
     let refusal = h.refusal;
     let at = h.at;
-    if refusal.number() != 0 {
+    if !refusal.passes() {
         return &bytes[..0];
     }
     &bytes[at..]

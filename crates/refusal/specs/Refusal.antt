@@ -1,5 +1,7 @@
 -- The number that document 01's table gives each refusal; 0 is no refusal.
 use Prim.Native.Nat.{ℕ}
+use mathlib.Core.Bool.{Bool}
+use lib.Dec.{eqb}
 use Rattle.refusal.specs.declared.Refusal.{Refusal}
 use Rattle.refusal.specs.declared.Refusal.the-variants.{None, Range, Tau, Slew, Alpha, Points, Steps, Motor, Lane, Closed, Open, Magic, Header, Kind, Shape, Cut, Rest, RowSum, Window}
 
@@ -23,3 +25,7 @@ numberOf Cut = 15
 numberOf Rest = 16
 numberOf RowSum = 17
 numberOf Window = 18
+
+-- nothing is refused
+unfoldable pub passes : Refusal → Bool
+passes why = eqb (numberOf why) 0

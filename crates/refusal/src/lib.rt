@@ -1,6 +1,6 @@
 // The refusals of document 01, each named once. An answer that can be refused holds one of these beside its numbers.
 ghost use mathlib.Core.Path.{_≡_};
-ghost use Rattle.refusal.specs.Refusal.{numberOf};
+ghost use Rattle.refusal.specs.Refusal.{numberOf, passes};
 
 pub enum Refusal {
     // Nothing is refused.
@@ -69,5 +69,12 @@ impl Refusal {
             Refusal::RowSum => 17,
             Refusal::Window => 18,
         }
+    }
+
+    // Whether nothing is refused.
+    pub fn passes(self) -> bool
+        ensures { λ r. ⌜ r ≡ passes self ⌝ }
+    {
+        self.number() == 0
     }
 }

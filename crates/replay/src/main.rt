@@ -221,7 +221,7 @@ fn begin(to: usize, input: &mut [u8], cells: &mut [f32], values: &mut [f32], out
     }
     let begun = trace::start(&input[..to]);
     let why = begun.refusal;
-    if 0 < why.number() {
+    if !why.passes() {
         let n = trace::refused_line(why, out);
         last(out, n);
         return;

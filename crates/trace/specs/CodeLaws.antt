@@ -11,11 +11,11 @@ use lib.ListN.{length, take, drop, length-drop}
 use lib.Seq.{drop-drop}
 use Rattle.refusal.specs.declared.Refusal.{Refusal}
 use Rattle.refusal.specs.declared.Refusal.the-variants as Refusal
-use Rattle.refusal.specs.Refusal.{numberOf}
+use Rattle.refusal.specs.Refusal.{passes}
 use Rattle.npy.specs.declared.reader.Kind.{Kind}
 use Rattle.npy.specs.declared.reader.Kind.the-variants.{F4}
 use Rattle.npy.specs.declared.reader.Head.{Head}
-use Rattle.npy.specs.Header.{headerOf}
+use Rattle.npy.specs.Header.{accepted, headerOf}
 use Rattle.npy.specs.HeaderLaws.{to-end, at-within}
 use Rattle.npy.specs.Cell.{cellOf, cellsOf}
 use Rattle.bank.specs.declared.lane.Op.the-variants.{Open}
@@ -24,35 +24,35 @@ use Rattle.bank.specs.declared.Bank.{Bank}
 use Rattle.bank.specs.Bank.{freshBank, bankStep}
 use Rattle.bank.specs.Runs.{after}
 use Rattle.trace.specs.declared.course.Begun.{Begun}
-use Rattle.trace.specs.Trace.{refused, isF4, isCell, settingsRefusal, openCalls, openedBank, traceRefusal, refusedStart, traceStart, startOf}
+use Rattle.trace.specs.Trace.{isF4, isCell, settingsRefusal, openCalls, openedBank, traceRefusal, refusedStart, traceStart, startOf}
 use Rattle.trace.specs.TraceLaws.{Settings, settings-parts}
 
 -- ---- the settings, test by test
 
 module _ (h : Head) (len : ℕ) where
-  pub settings-header : (n : ℕ) → n ≡ numberOf (h .refusal) → (n ≡ 0 → ⊥) → h .refusal ≡ settingsRefusal h len
+  pub settings-header : (p : Bool) → p ≡ accepted h → p ≡ false → h .refusal ≡ settingsRefusal h len
   unfolding settingsRefusal
-  settings-header n e g = rw (← e, ne-eqb n 0 g)
+  settings-header p e g = rw (← e, g)
 
-  settings-tests : (n : ℕ) (t u : Bool) → n ≡ numberOf (h .refusal) → n ≡ 0 → t ≡ isF4 (h .kind) → u ≡ (leb 1 (h .rows) && (leb (h .rows) 8 && eqb (h .cols) 5))
+  settings-tests : (p t u : Bool) → p ≡ accepted h → p ≡ true → t ≡ isF4 (h .kind) → u ≡ (leb 1 (h .rows) && (leb (h .rows) 8 && eqb (h .cols) 5))
       → settingsRefusal h len ≡ cond t (cond u (cond (leb (h .at + h .rows * 20) len) Refusal.None Refusal.Cut) Refusal.Shape) Refusal.Kind
   unfolding settingsRefusal
-  settings-tests n t u e g et eu = rw (← e, eq-eqb n 0 g, et, eu)
+  settings-tests p t u e g et eu = rw (← e, g, et, eu)
 
-  pub settings-kind : (n : ℕ) (t : Bool) → n ≡ numberOf (h .refusal) → n ≡ 0 → t ≡ isF4 (h .kind) → t ≡ false → Refusal.Kind ≡ settingsRefusal h len
-  settings-kind n t e g et h0 = sym (settings-tests n t _ e g et refl ∙ simp h0)
+  pub settings-kind : (p t : Bool) → p ≡ accepted h → p ≡ true → t ≡ isF4 (h .kind) → t ≡ false → Refusal.Kind ≡ settingsRefusal h len
+  settings-kind p t e g et h0 = sym (settings-tests p t _ e g et refl ∙ simp h0)
 
-  pub settings-shape : (n : ℕ) (t u : Bool) → n ≡ numberOf (h .refusal) → n ≡ 0 → t ≡ isF4 (h .kind) → t ≡ true
+  pub settings-shape : (p t u : Bool) → p ≡ accepted h → p ≡ true → t ≡ isF4 (h .kind) → t ≡ true
       → u ≡ (leb 1 (h .rows) && (leb (h .rows) 8 && eqb (h .cols) 5)) → u ≡ false → Refusal.Shape ≡ settingsRefusal h len
-  settings-shape n t u e g et h0 eu h1 = sym (settings-tests n t u e g et eu ∙ simp (h0, h1))
+  settings-shape p t u e g et h0 eu h1 = sym (settings-tests p t u e g et eu ∙ simp (h0, h1))
 
-  pub settings-cut : (n : ℕ) (t u : Bool) → n ≡ numberOf (h .refusal) → n ≡ 0 → t ≡ isF4 (h .kind) → t ≡ true
+  pub settings-cut : (p t u : Bool) → p ≡ accepted h → p ≡ true → t ≡ isF4 (h .kind) → t ≡ true
       → u ≡ (leb 1 (h .rows) && (leb (h .rows) 8 && eqb (h .cols) 5)) → u ≡ true → h .at ≤ len → len - h .at < h .rows * 20 → Refusal.Cut ≡ settingsRefusal h len
-  settings-cut n t u e g et h0 eu h1 a b = sym (settings-tests n t u e g et eu ∙ simp (h0, h1, lt-leb (h .at + h .rows * 20) len (omega arith)))
+  settings-cut p t u e g et h0 eu h1 a b = sym (settings-tests p t u e g et eu ∙ simp (h0, h1, lt-leb (h .at + h .rows * 20) len (omega arith)))
 
-  pub settings-none : (n : ℕ) (t u : Bool) → n ≡ numberOf (h .refusal) → n ≡ 0 → t ≡ isF4 (h .kind) → t ≡ true
+  pub settings-none : (p t u : Bool) → p ≡ accepted h → p ≡ true → t ≡ isF4 (h .kind) → t ≡ true
       → u ≡ (leb 1 (h .rows) && (leb (h .rows) 8 && eqb (h .cols) 5)) → u ≡ true → h .at ≤ len → h .rows * 20 ≤ len - h .at → Refusal.None ≡ settingsRefusal h len
-  settings-none n t u e g et h0 eu h1 a b = sym (settings-tests n t u e g et eu ∙ simp (h0, h1, le-leb (h .at + h .rows * 20) len (omega arith)))
+  settings-none p t u e g et h0 eu h1 a b = sym (settings-tests p t u e g et eu ∙ simp (h0, h1, le-leb (h .at + h .rows * 20) len (omega arith)))
 
 pub rows-shape : (rows cols : ℕ) (u : Bool) → u ≡ (leb 1 rows && (leb rows 8 && eqb cols 5)) → u ≡ true → (1 ≤ rows) × (rows ≤ 8)
 rows-shape rows cols u e h = go (leb 1 rows) (leb rows 8) refl refl (sym e ∙ h)
@@ -65,23 +65,23 @@ rows-shape rows cols u e h = go (leb 1 rows) (leb rows 8) refl refl (sym e ∙ h
 -- ---- the trace's header, test by test
 
 module _ (k : ℕ) (h : Head) where
-  pub trace-header : (n : ℕ) → n ≡ numberOf (h .refusal) → (n ≡ 0 → ⊥) → h .refusal ≡ traceRefusal k h
+  pub trace-header : (p : Bool) → p ≡ accepted h → p ≡ false → h .refusal ≡ traceRefusal k h
   unfolding traceRefusal
-  trace-header n e g = rw (← e, ne-eqb n 0 g)
+  trace-header p e g = rw (← e, g)
 
-  trace-tests : (n : ℕ) (t : Bool) → n ≡ numberOf (h .refusal) → n ≡ 0 → t ≡ isCell (h .kind)
+  trace-tests : (p t : Bool) → p ≡ accepted h → p ≡ true → t ≡ isCell (h .kind)
       → traceRefusal k h ≡ cond t (cond (eqb (h .cols) (k * 3)) Refusal.None Refusal.Shape) Refusal.Kind
   unfolding traceRefusal
-  trace-tests n t e g et = rw (← e, eq-eqb n 0 g, et)
+  trace-tests p t e g et = rw (← e, g, et)
 
-  pub trace-kind : (n : ℕ) (t : Bool) → n ≡ numberOf (h .refusal) → n ≡ 0 → t ≡ isCell (h .kind) → t ≡ false → Refusal.Kind ≡ traceRefusal k h
-  trace-kind n t e g et h0 = sym (trace-tests n t e g et ∙ simp h0)
+  pub trace-kind : (p t : Bool) → p ≡ accepted h → p ≡ true → t ≡ isCell (h .kind) → t ≡ false → Refusal.Kind ≡ traceRefusal k h
+  trace-kind p t e g et h0 = sym (trace-tests p t e g et ∙ simp h0)
 
-  pub trace-shape : (n : ℕ) (t : Bool) → n ≡ numberOf (h .refusal) → n ≡ 0 → t ≡ isCell (h .kind) → t ≡ true → (h .cols ≡ k * 3 → ⊥) → Refusal.Shape ≡ traceRefusal k h
-  trace-shape n t e g et h0 h1 = sym (trace-tests n t e g et ∙ simp (h0, ne-eqb _ _ h1))
+  pub trace-shape : (p t : Bool) → p ≡ accepted h → p ≡ true → t ≡ isCell (h .kind) → t ≡ true → (h .cols ≡ k * 3 → ⊥) → Refusal.Shape ≡ traceRefusal k h
+  trace-shape p t e g et h0 h1 = sym (trace-tests p t e g et ∙ simp (h0, ne-eqb _ _ h1))
 
-  pub trace-none : (n : ℕ) (t : Bool) → n ≡ numberOf (h .refusal) → n ≡ 0 → t ≡ isCell (h .kind) → t ≡ true → h .cols ≡ k * 3 → Refusal.None ≡ traceRefusal k h
-  trace-none n t e g et h0 h1 = sym (trace-tests n t e g et ∙ simp (h0, eq-eqb _ _ h1))
+  pub trace-none : (p t : Bool) → p ≡ accepted h → p ≡ true → t ≡ isCell (h .kind) → t ≡ true → h .cols ≡ k * 3 → Refusal.None ≡ traceRefusal k h
+  trace-none p t e g et h0 h1 = sym (trace-tests p t e g et ∙ simp (h0, eq-eqb _ _ h1))
 
 -- ---- the lanes that are opened
 
@@ -118,14 +118,14 @@ module _ (s : List ℕ) where
 -- ---- the start
 
 pub trace-refused : (k at : ℕ) (b : Bank) (s : List ℕ) (h : Head) (why : Refusal) (t : Bool) (r : Begun) → h ≡ headerOf (take (length s - at) (drop at s)) → why ≡ traceRefusal k h
-    → t ≡ refused why → t ≡ true → r ≡ refusedStart why → r ≡ traceStart k b at s
+    → t ≡ passes why → t ≡ false → r ≡ refusedStart why → r ≡ traceStart k b at s
 unfolding traceStart
 trace-refused k at b s h why t r eh ew et g er =
     let eh' : h ≡ headerOf (drop at s) = rw (to-end s at) at eh in
     er ∙ rw (← eh', ← ew, ← et, g)
 
 pub trace-started : (k at : ℕ) (b : Bank) (s : List ℕ) (h : Head) (why : Refusal) (t : Bool) → h ≡ headerOf (take (length s - at) (drop at s)) → why ≡ traceRefusal k h
-    → t ≡ refused why → t ≡ false
+    → t ≡ passes why → t ≡ true
     → record { refusal = Refusal.None; course = record { kind = h .kind; lanes = k; left = h .rows; bank = b }; at = at + h .at } ≡ traceStart k b at s
 unfolding traceStart
 trace-started k at b s h why t eh ew et g =
@@ -139,17 +139,17 @@ place-within at s h e = rw e (subst (λ (n : ℕ). headerOf (take (length s - at
     long : (s : List ℕ) (at : ℕ) → length (take (length s - at) (drop at s)) ≡ length s - at
     long s at = rw (to-end s at) (length-drop at s)
 
-pub start-refused : (s : List ℕ) (h : Head) (why : Refusal) (t : Bool) (r : Begun) → h ≡ headerOf s → why ≡ settingsRefusal h (length s) → t ≡ refused why → t ≡ true
+pub start-refused : (s : List ℕ) (h : Head) (why : Refusal) (t : Bool) (r : Begun) → h ≡ headerOf s → why ≡ settingsRefusal h (length s) → t ≡ passes why → t ≡ false
     → r ≡ refusedStart why → r ≡ startOf s
 unfolding startOf
 start-refused s h why t r eh ew et g er = er ∙ rw (← eh, ← ew, ← et, g)
 
-pub start-given : (s : List ℕ) (h : Head) (why : Refusal) (t : Bool) (b : Bank) (r : Begun) → h ≡ headerOf s → why ≡ settingsRefusal h (length s) → t ≡ refused why → t ≡ false
+pub start-given : (s : List ℕ) (h : Head) (why : Refusal) (t : Bool) (b : Bank) (r : Begun) → h ≡ headerOf s → why ≡ settingsRefusal h (length s) → t ≡ passes why → t ≡ true
     → b ≡ openedBank (h .rows) (take (length s - h .at) (drop (h .at) s)) → r ≡ traceStart (h .rows) b (h .at + h .rows * 20) s → r ≡ startOf s
 unfolding startOf
 start-given s h why t b r eh ew et g eb er =
     let eb' : b ≡ openedBank (h .rows) (drop (h .at) s) = rw (to-end s (h .at)) at eb in
     er ∙ rw (← eh, ← ew, ← et, g, eb')
 
-pub settings-from : (s : List ℕ) (h : Head) (why : Refusal) (t : Bool) → why ≡ settingsRefusal h (length s) → t ≡ refused why → t ≡ false → Settings h (length s)
+pub settings-from : (s : List ℕ) (h : Head) (why : Refusal) (t : Bool) → why ≡ settingsRefusal h (length s) → t ≡ passes why → t ≡ true → Settings h (length s)
 settings-from s h why t ew et g = settings-parts h (length s) (rw (← ew, ← et) g)

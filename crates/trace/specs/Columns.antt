@@ -2,7 +2,7 @@
 -- cells. Nothing of another lane comes into it. Assumes nothing.
 use mathlib.Core.Path.{_≡_, refl, sym, ap, subst, _∙_}
 use mathlib.Core.List.{List, [], _∷_, _++_, append-assoc}
-use mathlib.Core.Bool.{false}
+use mathlib.Core.Bool.{true}
 use Prim.Native.Nat.{ℕ, zero, suc, _+_, _-_, _*_, _≤_, _<_}
 use native.Mathlib.Nat.{suc-mul, zero-mul, add-zero, zero-add, add-comm, add-assoc, mul-assoc, add-mul}
 use native.Mathlib.Omega.{arith}
@@ -11,6 +11,7 @@ use lib.ListN.{length, getD, take, drop}
 use lib.Seq.{drop-drop, drop-append-add}
 use borrow.Author.Tests.{lt-ltb, eq-eqb, ne-eqb}
 use Rattle.refusal.specs.declared.Refusal.the-variants as Refusal
+use Rattle.refusal.specs.Refusal.{passes}
 use Rattle.npy.specs.declared.reader.Kind.{Kind}
 use Rattle.npy.specs.declared.reader.Kind.the-variants.{F4}
 use Rattle.npy.specs.Header.{cellWidth, headerOf}
@@ -34,7 +35,7 @@ use Rattle.bank.specs.Rows.{nextLane, updateCalls, valuesOf}
 use Rattle.bank.specs.RowsLaws.{values-length}
 use Rattle.bank.specs.ColumnsLaws.{after-eight}
 use Rattle.trace.specs.declared.course.Course.{Course}
-use Rattle.trace.specs.Trace.{refused, openCalls, openedBank, startOf, replayOf, rowWidth, rowCalls, rowLine, rowOn, nextRows}
+use Rattle.trace.specs.Trace.{openCalls, openedBank, startOf, replayOf, rowWidth, rowCalls, rowLine, rowOn, nextRows}
 use Rattle.trace.specs.TraceLaws.{updateOf, calls-more, row-length, row-count, Whole, accepted-prints, started, rowsOf, Accepted, accepted-all}
 
 -- ---- lane after lane
@@ -317,7 +318,7 @@ unfoldable pub printed : List ℕ → ℕ → ℕ → List ℕ
 printed s L r = take 8 (drop (r * (9 * lanesOf s) + 9 * L) (replayOf s))
 
 -- they are those of the r-th value of one controller that is made with the lane's settings and updated with the lane's cells
-pub column-theorem : (s : List ℕ) (m L r : ℕ) → refused (startOf s .refusal) ≡ false → Whole (startOf s .course) (rowsOf s) m → L < lanesOf s → r < m
+pub column-theorem : (s : List ℕ) (m L r : ℕ) → passes (startOf s .refusal) ≡ true → Whole (startOf s .course) (rowsOf s) m → L < lanesOf s → r < m
     → printed s L r ≡ wordOf (getD (column (controllerAt (settingsOf s) L) (laneUpdates (cellKindOf s) (lanesOf s) L m (rowsOf s))) r nan)
 unfolding printed
 column-theorem s m L r e w l h =
@@ -344,7 +345,7 @@ unfolding updateAt
 same-update s t L n r e h = rw (e .cells r 0 h (omega arith), e .cells r 1 h (omega arith), e .cells r 2 h (omega arith))
 
 -- then they print equal digits for it in each of these rows that both have whole, however the files end
-pub same-column : (s t : List ℕ) (L n m k r : ℕ) → refused (startOf s .refusal) ≡ false → refused (startOf t .refusal) ≡ false
+pub same-column : (s t : List ℕ) (L n m k r : ℕ) → passes (startOf s .refusal) ≡ true → passes (startOf t .refusal) ≡ true
     → Whole (startOf s .course) (rowsOf s) m → Whole (startOf t .course) (rowsOf t) k → L < lanesOf s → SameLane s t L n → r < n → r < m → r < k
     → printed s L r ≡ printed t L r
 same-column s t L n m k r es et ws wt l e hn hm hk =

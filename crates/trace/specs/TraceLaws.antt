@@ -10,10 +10,10 @@ use native.Mathlib.Omega.{arith}
 use lib.ListN.{length, drop, length-drop, length-append}
 use lib.Seq.{drop-drop}
 use lib.Dec.{ltb, leb, eqb}
-use borrow.Author.Tests.{lt-ltb, le-ltb, ltb-true, ltb-false, leb-true, eqb-true, eqb-false}
+use borrow.Author.Tests.{lt-ltb, le-ltb, ltb-true, ltb-false, leb-true, eqb-true}
 use Rattle.refusal.specs.declared.Refusal.{Refusal}
 use Rattle.refusal.specs.declared.Refusal.the-variants as Refusal
-use Rattle.refusal.specs.Refusal.{numberOf}
+use Rattle.refusal.specs.Refusal.{passes}
 use Rattle.npy.specs.declared.reader.Head.{Head}
 use Rattle.float.specs.FloatLaws.{and-left, and-right}
 use Rattle.npy.specs.declared.reader.Kind.{Kind}
@@ -29,7 +29,7 @@ use Rattle.bank.specs.Runs.{for, run}
 use Rattle.bank.specs.Rows.{nextLane, updateCalls, valuesOf}
 use Rattle.bank.specs.RowsLaws.{values-length, calls-length}
 use Rattle.trace.specs.declared.course.Course.{Course}
-use Rattle.trace.specs.Trace.{refused, isF4, isCell, settingsBytes, settingsRefusal, openedBank, traceRefusal, traceStart, refusedStart, startOf, replayOf, rowWidth, rowCalls, rowLine, rowOn, nextRows, onRows, refusedLine, restText, endText, rowsText, courseText}
+use Rattle.trace.specs.Trace.{isF4, isCell, settingsBytes, settingsRefusal, openedBank, traceRefusal, traceStart, refusedStart, startOf, replayOf, rowWidth, rowCalls, rowLine, rowOn, nextRows, onRows, refusedLine, restText, endText, rowsText, courseText}
 
 -- ---- n rows are n rows, whatever is left: the trace after them
 
@@ -194,12 +194,9 @@ rows-length (suc n) c s =
 -- ---- the start
 
 -- a refusal that is given only where a test fails: it is not given, so the test holds, and no later refusal is given either
-not-given : (t : Bool) (x y : Refusal) → (t ≡ false → refused y ≡ true) → refused (cond t x y) ≡ false → (t ≡ true) × (refused x ≡ false)
+not-given : (t : Bool) (x y : Refusal) → (t ≡ false → passes y ≡ false) → passes (cond t x y) ≡ true → (t ≡ true) × (passes x ≡ true)
 not-given true x y h e = (refl, e)
-not-given false x y h e = let z : true ≡ false = sym (h refl) ∙ e in ((cc), (cc))
-
-header-refused : (h : Head) → accepted h ≡ false → refused (h .refusal) ≡ true
-header-refused h e = let n : numberOf (h .refusal) ≡ 0 → ⊥ = eqb-false (numberOf (h .refusal)) 0 e in lt-ltb 0 (numberOf (h .refusal)) (omega arith)
+not-given false x y h e = let z : false ≡ true = sym (h refl) ∙ e in ((cc), (cc))
 
 -- what an accepted first array is
 pub record Settings (h : Head) (len : ℕ) : Type 0 where
@@ -210,10 +207,10 @@ pub record Settings (h : Head) (len : ℕ) : Type 0 where
   pub five : h .cols ≡ 5
   pub fits : h .at + settingsBytes (h .rows) ≤ len
 
-pub settings-parts : (h : Head) (len : ℕ) → refused (settingsRefusal h len) ≡ false → Settings h len
-unfolding settingsRefusal
+pub settings-parts : (h : Head) (len : ℕ) → passes (settingsRefusal h len) ≡ true → Settings h len
+unfolding settingsRefusal passes
 settings-parts h len e =
-    let a = not-given (accepted h) _ (h .refusal) (header-refused h) e in
+    let a = not-given (accepted h) _ (h .refusal) (λ x. x) e in
     let b = not-given (isF4 (h .kind)) _ Refusal.Kind (λ x. refl) (a .1) in
     let c = not-given (leb 1 (h .rows) && (leb (h .rows) 8 && eqb (h .cols) 5)) _ Refusal.Shape (λ x. refl) (b .1) in
     let d = not-given (leb (h .at + settingsBytes (h .rows)) len) Refusal.None Refusal.Cut (λ x. refl) (c .1) in
@@ -228,10 +225,10 @@ settings-parts h len e =
     }
 
 -- what an accepted header of the trace is
-pub trace-parts : (k : ℕ) (h : Head) → refused (traceRefusal k h) ≡ false → (accepted h ≡ true) × (isCell (h .kind) ≡ true) × (h .cols ≡ k * 3)
-unfolding traceRefusal
+pub trace-parts : (k : ℕ) (h : Head) → passes (traceRefusal k h) ≡ true → (accepted h ≡ true) × (isCell (h .kind) ≡ true) × (h .cols ≡ k * 3)
+unfolding traceRefusal passes
 trace-parts k h e =
-    let a = not-given (accepted h) _ (h .refusal) (header-refused h) e in
+    let a = not-given (accepted h) _ (h .refusal) (λ x. x) e in
     let b = not-given (isCell (h .kind)) _ Refusal.Kind (λ x. refl) (a .1) in
     let c = not-given (eqb (h .cols) (k * 3)) Refusal.None Refusal.Shape (λ x. refl) (b .1) in
     (a .0, b .0, eqb-true _ _ (c .0))
@@ -256,15 +253,15 @@ pub record Started (s : List ℕ) : Type 0 where
   pub bank : startOf s .course .bank ≡ openedBank (firstHead s .rows) (drop (firstHead s .at) s)
   pub at : startOf s .at ≡ secondAt s + secondHead s .at
 
-pub started : (s : List ℕ) → refused (startOf s .refusal) ≡ false → Started s
+pub started : (s : List ℕ) → passes (startOf s .refusal) ≡ true → Started s
 unfolding startOf traceStart refusedStart
-started s = first (refused (settingsRefusal (headerOf s) (length s))) refl (refused (traceRefusal (headerOf s .rows) (secondHead s))) refl
+started s = first (passes (settingsRefusal (headerOf s) (length s))) refl (passes (traceRefusal (headerOf s .rows) (secondHead s))) refl
   where
-    first : (t : Bool) → refused (settingsRefusal (headerOf s) (length s)) ≡ t → (u : Bool) → refused (traceRefusal (headerOf s .rows) (secondHead s)) ≡ u
-        → refused (startOf s .refusal) ≡ false → Started s
-    first true e u f h = absurd (true≢false (simp e at h))
-    first false e true f h = absurd (true≢false (simp (e, f) at h))
-    first false e false f h =
+    first : (t : Bool) → passes (settingsRefusal (headerOf s) (length s)) ≡ t → (u : Bool) → passes (traceRefusal (headerOf s .rows) (secondHead s)) ≡ u
+        → passes (startOf s .refusal) ≡ true → Started s
+    first false e u f h = absurd (true≢false (sym (simp e at h)))
+    first true e false f h = absurd (true≢false (sym (simp (e, f) at h)))
+    first true e true f h =
         record {
           settings = settings-parts (headerOf s) (length s) e;
           trace = trace-parts (headerOf s .rows) (secondHead s) f;
@@ -297,12 +294,12 @@ rowsOf s = drop (startOf s .at) s
 
 -- ---- THE WHOLE FILE: one whose start is refused prints its refusal alone
 
-pub refused-prints : (s : List ℕ) → refused (startOf s .refusal) ≡ true → replayOf s ≡ refusedLine (startOf s .refusal)
+pub refused-prints : (s : List ℕ) → passes (startOf s .refusal) ≡ false → replayOf s ≡ refusedLine (startOf s .refusal)
 unfolding replayOf
 refused-prints s e = simp e
 
 -- and one whose start is accepted the lines of its whole rows, and then the ending: 15 where rows are missing, 16 where bytes are left over, nothing else
-pub accepted-prints : (s : List ℕ) (m : ℕ) → refused (startOf s .refusal) ≡ false → Whole (startOf s .course) (rowsOf s) m
+pub accepted-prints : (s : List ℕ) (m : ℕ) → passes (startOf s .refusal) ≡ true → Whole (startOf s .course) (rowsOf s) m
     → replayOf s
     ≡ nextRows m (startOf s .course) (rowsOf s)
     ++ endText (startOf s .course .left - m) (drop (m * rowWidth (startOf s .course)) (rowsOf s))
@@ -310,12 +307,12 @@ unfolding replayOf
 accepted-prints s m e w = simp e (whole-rows (startOf s .course) (rowsOf s) m w)
 
 -- a number of whole rows that is always there
-pub accepted-whole : (s : List ℕ) → refused (startOf s .refusal) ≡ false → Whole (startOf s .course) (rowsOf s) (wholeRows (startOf s .course) (rowsOf s))
+pub accepted-whole : (s : List ℕ) → passes (startOf s .refusal) ≡ true → Whole (startOf s .course) (rowsOf s) (wholeRows (startOf s .course) (rowsOf s))
 accepted-whole s e = whole-is (startOf s .course) (rowsOf s) (some-bytes s (started s e))
 
 -- nothing of the file is refused: its start is accepted, and it has the bytes of its rows and no more
 pub record Accepted (s : List ℕ) : Type 0 where
-  pub start : refused (startOf s .refusal) ≡ false
+  pub start : passes (startOf s .refusal) ≡ true
   pub rows : length (rowsOf s) ≡ startOf s .course .left * rowWidth (startOf s .course)
 
 pub accepted-all : (s : List ℕ) → Accepted s → Whole (startOf s .course) (rowsOf s) (startOf s .course .left)

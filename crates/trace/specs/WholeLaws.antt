@@ -8,13 +8,13 @@ use Rattle.refusal.specs.Cases.{lt-or-le}
 use Rattle.npy.specs.HeaderStart.{shape-small}
 use native.Mathlib.Nat.{suc-mul, zero-mul, mul-assoc, mul-comm, div-eq-sub-div, mul-le-mul}
 use native.Mathlib.Omega.{arith}
-use borrow.Author.Tests.{ltb-true, ltb-false, leb-true, leb-false, lt-ltb, le-ltb, le-leb, lt-leb}
+use borrow.Author.Tests.{ltb-true, ltb-false, leb-true, leb-false, lt-ltb, le-ltb, le-leb, lt-leb, eq-eqb, ne-eqb}
 use lib.Dec.{ltb, leb}
 use lib.ListN.{length, set, take, drop, length-append, length-drop, take-append-drop, drop-of-length-le}
 use lib.Seq.{sets, length-sets, drop-drop, drop-set-add, take-set-le}
 use Rattle.refusal.specs.declared.Refusal.{Refusal}
 use Rattle.refusal.specs.declared.Refusal.the-variants as Refusal
-use Rattle.refusal.specs.Refusal.{numberOf}
+use Rattle.refusal.specs.Refusal.{numberOf, passes}
 use Rattle.npy.specs.declared.reader.Kind.{Kind}
 use Rattle.npy.specs.declared.reader.Head.{Head}
 use Rattle.float.specs.FloatLaws.{and-left, and-right}
@@ -24,7 +24,7 @@ use Rattle.npy.specs.Cell.{least}
 use Rattle.trace.specs.declared.course.Course.{Course}
 use Rattle.trace.specs.declared.course.Begun.{Begun}
 use Rattle.trace.specs.declared.course.Went.{Went}
-use Rattle.trace.specs.Trace.{refused, isCell, startOf, rowWidth, rowLine, rowOn, nextRows, onRows, refusedLine, restText, endText, courseText, replayOf}
+use Rattle.trace.specs.Trace.{isCell, startOf, rowWidth, rowLine, rowOn, nextRows, onRows, refusedLine, restText, endText, courseText, replayOf}
 use Rattle.trace.specs.Slices.{laned, rowsFor, rowsIn, wentOf, wrote, wroteCount, rowsRefusal, courseRefusal, replayRefusal, reasonText, replayedOf}
 use Rattle.trace.specs.EndLaws.{one-digit, two-digits}
 use Rattle.trace.specs.TraceLaws.{Whole, whole-rows, wholeRows, whole-is, rowsOf, Accepted, accepted-all, accepted-whole, firstHead, secondAt, secondHead, started, start-within, row-length, rows-length, spent-text, row-cut, rows-cut, on-left, on-kind, on-lanes, on-width}
@@ -50,7 +50,7 @@ lanes-are : (kind : Kind) (k : ℕ) → 1 ≤ k → k ≤ 8 → isCell kind ≡ 
 unfolding laned
 lanes-are kind k a b h = rw (le-leb 1 k a, le-leb k 8 b) h
 
-pub ready : (s : List ℕ) → refused (startOf s .refusal) ≡ false → Ready (startOf s) (length s)
+pub ready : (s : List ℕ) → passes (startOf s .refusal) ≡ true → Ready (startOf s) (length s)
 ready s e =
     let g = started s e in
     record {
@@ -74,7 +74,7 @@ over c s h = spent-text c s (⊎-elim (λ (l : 0 < c .left). inr (h l)) (λ (g :
 
 -- what is printed there is the line of what the trace is refused with
 over-reason : (l w : ℕ) (s : List ℕ) → (0 < l → length s < w) → endText l s ≡ reasonText (rowsRefusal l w (length s))
-unfolding rowsRefusal reasonText restText endText
+unfolding rowsRefusal reasonText passes restText endText
 over-reason zero w [] h = refl
 over-reason zero w (x ∷ s) h = rw (lt-ltb 0 (suc (length s)) (omega arith))
 over-reason (suc l) w s h = rw (lt-ltb (length s) w (h (omega arith)))
@@ -281,16 +281,16 @@ printable-still c width s a b out a′ b′ p e f = rw (e, f) p
 
 module _ (why : Refusal) (n : ℕ) (e : n ≡ numberOf why) where
   pub no-line : n < 1 → (0 ≡ length (reasonText why)) × (0 ≤ 11)
-  unfolding reasonText
-  no-line h = (rw (← e, le-ltb 0 n (omega arith)), omega arith)
+  unfolding reasonText passes
+  no-line h = (rw (← e, eq-eqb n 0 (omega arith)), omega arith)
 
   pub short-line : 1 ≤ n → n < 10 → (10 ≡ length (reasonText why)) × (10 ≤ 11)
-  unfolding reasonText
-  short-line h g = (rw (← e, lt-ltb 0 n h, one-digit why n e g), omega arith)
+  unfolding reasonText passes
+  short-line h g = (rw (← e, ne-eqb n 0 (λ z. omega arith), one-digit why n e g), omega arith)
 
   pub long-line : 10 ≤ n → (11 ≡ length (reasonText why)) × (11 ≤ 11)
-  unfolding reasonText
-  long-line g = (rw (← e, lt-ltb 0 n (omega arith), two-digits why n e g), omega arith)
+  unfolding reasonText passes
+  long-line g = (rw (← e, ne-eqb n 0 (λ z. omega arith), two-digits why n e g), omega arith)
 
 -- ---- the answer for a whole trace
 
@@ -340,19 +340,19 @@ module _ (c : Course) (s : List ℕ) (w n : ℕ) (t : laned (c .kind) (c .lanes)
       let nl : n ≤ c .left = all-whole .under in
       mul-le-mul {n₁ = n} {m₁ = c .lanes * 9} {n₂ = 1000000000} {m₂ = 72} (omega arith) (omega arith)
 
-pub whole-refused : (s : List ℕ) (b : Begun) (t : Bool) → b ≡ startOf s → t ≡ refused (b .refusal) → t ≡ true → (replayRefusal s ≡ b .refusal) × (replayOf s ≡ refusedLine (b .refusal))
+pub whole-refused : (s : List ℕ) (b : Begun) (t : Bool) → b ≡ startOf s → t ≡ passes (b .refusal) → t ≡ false → (replayRefusal s ≡ b .refusal) × (replayOf s ≡ refusedLine (b .refusal))
 unfolding replayRefusal replayOf
-whole-refused s b t e et h = let g : refused (startOf s .refusal) ≡ true = rw (← e, ← et) h in (rw (g, e), rw (g, e))
+whole-refused s b t e et h = let g : passes (startOf s .refusal) ≡ false = rw (← e, ← et) h in (rw (g, e), rw (g, e))
 
-pub whole-trace : (s : List ℕ) (b : Begun) (t : Bool) → b ≡ startOf s → t ≡ refused (b .refusal) → t ≡ false
+pub whole-trace : (s : List ℕ) (b : Begun) (t : Bool) → b ≡ startOf s → t ≡ passes (b .refusal) → t ≡ true
     → (replayRefusal s ≡ courseRefusal (b .course) (take (length s - b .at) (drop (b .at) s))) × (replayOf s ≡ courseText (b .course) (take (length s - b .at) (drop (b .at) s)))
 unfolding replayRefusal replayOf
-whole-trace s b t e et h = let g : refused (startOf s .refusal) ≡ false = rw (← e, ← et) h in (rw (to-end s (b .at), g, e), rw (to-end s (b .at), g, e))
+whole-trace s b t e et h = let g : passes (startOf s .refusal) ≡ true = rw (← e, ← et) h in (rw (to-end s (b .at), g, e), rw (to-end s (b .at), g, e))
 
-pub ready-from : (s : List ℕ) (b : Begun) (t : Bool) → b ≡ startOf s → t ≡ refused (b .refusal) → t ≡ false → Ready b (length s)
+pub ready-from : (s : List ℕ) (b : Begun) (t : Bool) → b ≡ startOf s → t ≡ passes (b .refusal) → t ≡ true → Ready b (length s)
 ready-from s b t e et h = rw e (ready s (rw (← e, ← et) h))
 
-pub refused-answer : (why : Refusal) (need n : ℕ) (out out′ : List ℕ) → refused why ≡ true → need ≡ length (reasonText why)
+pub refused-answer : (why : Refusal) (need n : ℕ) (out out′ : List ℕ) → passes why ≡ false → need ≡ length (reasonText why)
     → (n ≡ wroteCount out (refusedLine why)) × (out′ ≡ wrote out (refusedLine why))
     → (record { refusal = why; need = need; whole = leb need (length out) } ≡ replayedOf why (refusedLine why) out) × (out′ ≡ wrote out (refusedLine why))
 unfolding reasonText replayedOf
@@ -362,8 +362,9 @@ refused-answer why need n out out′ h e w =
 
 -- ---- a file is accepted exactly where nothing is refused
 
-not-none : (why : Refusal) → refused why ≡ true → why ≡ Refusal.None → ⊥
-not-none why h e = true≢false (sym h ∙ ap refused e)
+not-none : (why : Refusal) → passes why ≡ false → why ≡ Refusal.None → ⊥
+unfolding passes
+not-none why h e = true≢false (sym (ap passes e) ∙ h)
 
 pub accepted-unrefused : (s : List ℕ) → Accepted s → replayRefusal s ≡ Refusal.None
 unfolding replayRefusal
@@ -372,8 +373,8 @@ accepted-unrefused s a =
     simp (a .start) (sym (reason-none c (rowsOf s) (c .left) (accepted-all s a) (omega arith) (omega (arith, a .rows))))
 
 pub unrefused-accepted : (s : List ℕ) → replayRefusal s ≡ Refusal.None → Accepted s
-unfolding replayRefusal
-unrefused-accepted s h = go (refused (startOf s .refusal)) refl
+unfolding replayRefusal passes
+unrefused-accepted s h = go (passes (startOf s .refusal)) refl
   where
     c : Course
     c = startOf s .course
@@ -390,6 +391,6 @@ unrefused-accepted s h = go (refused (startOf s .refusal)) refl
         (lt-or-le (n * rowWidth c) (length (rowsOf s))))
         (lt-or-le n (c .left))
 
-    go : (t : Bool) → refused (startOf s .refusal) ≡ t → Accepted s
-    go true e = absurd (not-none (startOf s .refusal) e (simp e at h))
-    go false e = record { start = e; rows = all (wholeRows c (rowsOf s)) (accepted-whole s e) (simp e at h) }
+    go : (t : Bool) → passes (startOf s .refusal) ≡ t → Accepted s
+    go false e = absurd (not-none (startOf s .refusal) e (simp e at h))
+    go true e = record { start = e; rows = all (wholeRows c (rowsOf s)) (accepted-whole s e) (simp e at h) }

@@ -12,6 +12,7 @@ use lib.Seq.{take-append-seam, drop-append-le}
 use borrow.Author.Tests.{leb-true}
 use Rattle.refusal.specs.declared.Refusal.{Refusal}
 use Rattle.refusal.specs.declared.Refusal.the-variants as Refusal
+use Rattle.refusal.specs.Refusal.{passes}
 use Rattle.npy.specs.declared.reader.Kind.{Kind}
 use Rattle.npy.specs.declared.reader.Kind.the-variants.{F4}
 use Rattle.npy.specs.declared.reader.Head.{Head}
@@ -21,7 +22,7 @@ use Rattle.npy.specs.CellLaws.{cells-take}
 use Rattle.npy.specs.Header.{headerOf, accepted}
 use Rattle.bank.specs.declared.Bank.{Bank}
 use Rattle.trace.specs.declared.course.Course.{Course}
-use Rattle.trace.specs.Trace.{refused, isF4, settingsBytes, settingsRefusal, openedBank, refusedStart, traceStart, startOf, replayOf, refusedLine, endText, rowWidth, rowCalls, rowLine, rowOn, nextRows, onRows, courseText}
+use Rattle.trace.specs.Trace.{isF4, settingsBytes, settingsRefusal, openedBank, refusedStart, traceStart, startOf, replayOf, refusedLine, endText, rowWidth, rowCalls, rowLine, rowOn, nextRows, onRows, courseText}
 use Rattle.trace.specs.TraceLaws.{rows-on, width-on, rows-cut, end-rest, Spent, spent-text, whole-spent, wholeRows, whole-is, on-width, settings-parts, secondAt, started, start-within, some-bytes}
 
 -- ---- rows are read from their own bytes alone
@@ -159,15 +160,17 @@ pub start-take : (n : ℕ) (s : List ℕ) → 2184 ≤ n → startOf (take n s) 
 unfolding startOf
 start-take n s h =
     rw (window-decides n s (omega arith), settings-take n s (headerOf s) (omega (arith, at-small s)))
-    (go (refused (settingsRefusal (headerOf s) (length s))) refl)
+    (go (passes (settingsRefusal (headerOf s) (length s))) refl)
   where
-    go : (t : Bool) → refused (settingsRefusal (headerOf s) (length s)) ≡ t
-        → cond (refused (settingsRefusal (headerOf s) (length s))) (refusedStart (settingsRefusal (headerOf s) (length s)))
+    go : (t : Bool) → passes (settingsRefusal (headerOf s) (length s)) ≡ t
+        → cond (passes (settingsRefusal (headerOf s) (length s)))
         (traceStart (headerOf s .rows) (openedBank (headerOf s .rows) (drop (headerOf s .at) (take n s))) (secondAt s) (take n s))
-        ≡ cond (refused (settingsRefusal (headerOf s) (length s))) (refusedStart (settingsRefusal (headerOf s) (length s)))
+        (refusedStart (settingsRefusal (headerOf s) (length s)))
+        ≡ cond (passes (settingsRefusal (headerOf s) (length s)))
         (traceStart (headerOf s .rows) (openedBank (headerOf s .rows) (drop (headerOf s .at) s)) (secondAt s) s)
-    go true e = rw e
-    go false e =
+        (refusedStart (settingsRefusal (headerOf s) (length s)))
+    go false e = rw e
+    go true e =
         let p = settings-parts (headerOf s) (length s) e in
         rw (
           e,
@@ -181,7 +184,7 @@ start-take n s h =
 unfoldable pub streamed : List ℕ → List Window → List ℕ
 streamed first ws =
     let b = startOf first in
-    cond (refused (b .refusal)) (refusedLine (b .refusal)) (windowed (b .course) (drop (b .at) first) ws)
+    cond (passes (b .refusal)) (windowed (b .course) (drop (b .at) first) ws) (refusedLine (b .refusal))
 
 -- it has read enough: 2,184 bytes or more, or all that there is
 abbrev pub Enough : List ℕ → List ℕ → Type 0
@@ -196,16 +199,16 @@ start-early first rest h =
 
 -- and prints what the file means
 pub streamed-theorem : (first : List ℕ) (ws : List Window) → Enough first (joined ws)
-    → (refused (startOf first .refusal) ≡ false → Allowed (startOf first .course) (drop (startOf first .at) first) ws)
+    → (passes (startOf first .refusal) ≡ true → Allowed (startOf first .course) (drop (startOf first .at) first) ws)
     → streamed first ws ≡ replayOf (first ++ joined ws)
 unfolding streamed replayOf
-streamed-theorem first ws enough allowed = rw (← start-early first (joined ws) enough) (go (refused (startOf first .refusal)) refl)
+streamed-theorem first ws enough allowed = rw (← start-early first (joined ws) enough) (go (passes (startOf first .refusal)) refl)
   where
-    go : (t : Bool) → refused (startOf first .refusal) ≡ t
-        → cond (refused (startOf first .refusal)) (refusedLine (startOf first .refusal)) (windowed (startOf first .course) (drop (startOf first .at) first) ws)
-        ≡ cond (refused (startOf first .refusal)) (refusedLine (startOf first .refusal)) (courseText (startOf first .course) (drop (startOf first .at) (first ++ joined ws)))
-    go true e = rw e
-    go false e =
+    go : (t : Bool) → passes (startOf first .refusal) ≡ t
+        → cond (passes (startOf first .refusal)) (windowed (startOf first .course) (drop (startOf first .at) first) ws) (refusedLine (startOf first .refusal))
+        ≡ cond (passes (startOf first .refusal)) (courseText (startOf first .course) (drop (startOf first .at) (first ++ joined ws))) (refusedLine (startOf first .refusal))
+    go false e = rw e
+    go true e =
         rw (e, drop-append-le (startOf first .at) first (joined ws) (start-within first (started first e)))
         (windows-theorem ws (startOf first .course) (drop (startOf first .at) first) (allowed e))
 
@@ -218,7 +221,7 @@ unfolding allOf
 plainly-theorem first parts enough =
     let same : joined (plainly first parts) ≡ allOf parts = at-once-joined ([] ∷ parts) (startOf first .course) (drop (startOf first .at) first) in
     streamed-theorem first (plainly first parts) (rw same enough)
-    (λ (e : refused (startOf first .refusal) ≡ false).
+    (λ (e : passes (startOf first .refusal) ≡ true).
     at-once-allowed ([] ∷ parts) (startOf first .course) (drop (startOf first .at) first) (some-bytes first (started first e)) (λ (z : [] ∷ parts ≡ []). absurd (nothing z)))
     ∙ ap (λ (l : List ℕ). replayOf (first ++ l)) same
   where

@@ -4,7 +4,7 @@ ghost use Prim.Native.Nat.{_≤_};
 ghost use mathlib.Core.Bool.{_&&_};
 ghost use lib.Dec.{leb, eqb};
 ghost use lib.ListN.{length};
-ghost use Rattle.trace.specs.Trace.{refused, isF4, isCell, settingsRefusal, openedBank, traceRefusal, refusedStart, traceStart, startOf};
+ghost use Rattle.trace.specs.Trace.{isF4, isCell, settingsRefusal, openedBank, traceRefusal, refusedStart, traceStart, startOf};
 use crate::course::Begun;
 use crate::course::Course;
 use bank::Bank;
@@ -12,13 +12,6 @@ use bank::SlewLimit;
 use npy::Head;
 use npy::Kind;
 use refusal::Refusal;
-
-// Whether that is a refusal.
-pub(crate) fn refused(why: Refusal) -> bool
-    ensures { λ r. ⌜ r ≡ refused why ⌝ }
-{
-    0 < why.number()
-}
 
 fn is_f4(kind: Kind) -> bool
     ensures { λ r. ⌜ r ≡ isF4 kind ⌝ }
@@ -60,7 +53,7 @@ fn settings_refusal(head: Head, len: usize) -> Refusal
 {
     let why = head.refusal;
     let kind = head.kind;
-    if why.number() != 0 {
+    if !why.passes() {
         return why;
     }
     if !is_f4(kind) {
@@ -82,7 +75,7 @@ fn trace_refusal(k: usize, head: Head) -> Refusal
 {
     let why = head.refusal;
     let kind = head.kind;
-    if why.number() != 0 {
+    if !why.passes() {
         return why;
     }
     if !is_cell(kind) {
@@ -141,7 +134,7 @@ fn trace_start(k: usize, bank: Bank, at: usize, bytes: &[u8]) -> Begun
 {
     let head = npy::header(&bytes[at..]);
     let why = trace_refusal(k, head);
-    if refused(why) {
+    if !why.passes() {
         return refused_start(why);
     }
     let first = at + head.at;
@@ -166,7 +159,7 @@ pub fn start(bytes: &[u8]) -> Begun
 {
     let head = npy::header(bytes);
     let why = settings_refusal(head, bytes.len());
-    if refused(why) {
+    if !why.passes() {
         return refused_start(why);
     }
     let k = head.rows;

@@ -1,20 +1,20 @@
 // A whole file in memory, and its text.
 ghost use mathlib.Core.Path.{_≡_};
 ghost use Prim.Native.Nat.{_*_, _≤_, _<_};
-ghost use mathlib.Core.Bool.{true, cond, _&&_};
+ghost use mathlib.Core.Bool.{true, false, cond, _&&_};
 ghost use lib.Dec.{ltb, leb};
 ghost use lib.ListN.{length};
 ghost use lib.Seq.{sets};
-ghost use Rattle.trace.specs.Trace.{refused, refusedLine, rowWidth, courseText, replayOf};
+ghost use Rattle.trace.specs.Trace.{refusedLine, rowWidth, courseText, replayOf};
 ghost use Rattle.trace.specs.Slices.{laned, courseRefusal, replayRefusal, reasonText, replayedOf, wrote};
 ghost use Rattle.trace.specs.WholeLaws.{Printable};
 ghost use Rattle.refusal.specs.declared.Refusal.the-variants as Refusal;
+ghost use Rattle.refusal.specs.Refusal.{passes};
 use crate::course::Course;
 use crate::course::Replayed;
 use crate::ending::end;
 use crate::ending::refused_line;
 use crate::going::rows;
-use crate::opening::refused;
 use crate::opening::start;
 use npy::least;
 use refusal::Refusal;
@@ -120,7 +120,7 @@ fn replay_trace(course: Course, trace: &[u8], out: &mut [u8]) -> Replayed
 
 // A file that is refused from the start.
 fn replay_refused(refusal: Refusal, out: &mut [u8]) -> Replayed
-    requires { ⌜ refused refusal ≡ true ⌝ }
+    requires { ⌜ passes refusal ≡ false ⌝ }
     ensures { λ r. ⌜ (r ≡ replayedOf refusal (refusedLine refusal) (now (out .entry))) × (now (out .exit) ≡ wrote (now (out .entry)) (refusedLine refusal)) ⌝ }
 {
     let need = reason_length(refusal);
@@ -141,7 +141,7 @@ pub fn replay(bytes: &[u8], out: &mut [u8]) -> Replayed
 {
     let begun = start(bytes);
     let why = begun.refusal;
-    if refused(why) {
+    if !why.passes() {
         return replay_refused(why, out);
     }
     let course = begun.course;

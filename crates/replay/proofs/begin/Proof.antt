@@ -16,8 +16,8 @@ slice-aggregate-start c = sym (length-take-le _ _ (c .before .if1 .left))
 start-requires : tie.Need-start-requires
 start-requires c κs = search needs
 
-number-requires : tie.Need-number-requires
-number-requires c κs = search needs
+passes-requires : tie.Need-passes-requires
+passes-requires c κs = search needs
 
 refused-line-requires : tie.Need-refused-line-requires
 refused-line-requires c κs = search needs
@@ -60,7 +60,7 @@ begin-spec =
     slice-reshare-prefix-start
     slice-aggregate-start
     start-requires
-    number-requires
+    passes-requires
     refused-line-requires
     last-requires
     same-length

@@ -1,20 +1,20 @@
-use Rattle.angle_pid.proofs.Passes.{passed, stopped}
 use Rattle.refusal.specs.Cases.{when-true, when-false}
+use mathlib.Core.Path.{sym, _∙_}
 use borrow.Author.Needs.{needs}
 use Rattle.angle_pid.specs.Pid.{first}
 use Rattle.angle_pid.proofs.pid.first.Statement.{statement}
 use Rattle.angle_pid.proofs.pid.first.Tie as tie
 
-number-requires : tie.Need-number-requires
-number-requires c κs = search needs
+passes-requires : tie.Need-passes-requires
+passes-requires c κs = search needs
 
 returns : tie.Need-returns
 unfolding first
-returns c = when-true _ _ _ (passed _ _ (c .before .number .ensures) (c .if1 .taken))
+returns c = when-true _ _ _ (sym (c .before .passes .ensures) ∙ c .if1 .taken)
 
 returns-2 : tie.Need-returns-2
 unfolding first
-returns-2 c = when-false _ _ _ (stopped _ _ (c .before .number .ensures) (c .if1 .left))
+returns-2 c = when-false _ _ _ (sym (c .before .passes .ensures) ∙ c .if1 .left)
 
 pub first-spec : {M : Type 1} → statement M
-first-spec = tie.close (tie.spec number-requires returns returns-2)
+first-spec = tie.close (tie.spec passes-requires returns returns-2)

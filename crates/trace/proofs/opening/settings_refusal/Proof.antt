@@ -5,11 +5,11 @@ use borrow.Author.Needs.{needs}
 use Rattle.trace.proofs.opening.settings_refusal.Statement.{statement}
 use Rattle.trace.proofs.opening.settings_refusal.Tie as tie
 
-number-requires : tie.Need-number-requires
-number-requires c κs = search needs
+passes-requires : tie.Need-passes-requires
+passes-requires c κs = search needs
 
 returns : tie.Need-returns
-returns c = settings-header _ _ _ (c .before .number .ensures) (c .if1 .taken)
+returns c = settings-header _ _ _ (c .before .passes .ensures) (not-true _ (c .if1 .taken))
 
 is-f4-requires : tie.Need-is-f4-requires
 is-f4-requires c κs = search needs
@@ -17,7 +17,7 @@ is-f4-requires c κs = search needs
 returns-2 : tie.Need-returns-2
 returns-2 c =
     let b = c .before .before in
-    settings-kind _ _ _ _ (b .before .number .ensures) (b .if1 .left) (c .before .is-f4 .ensures) (not-true _ (c .if2 .taken))
+    settings-kind _ _ _ _ (b .before .passes .ensures) (not-false _ (b .if1 .left)) (c .before .is-f4 .ensures) (not-true _ (c .if2 .taken))
 
 settings-shape-requires : tie.Need-settings-shape-requires
 settings-shape-requires c κs = search needs
@@ -25,7 +25,7 @@ settings-shape-requires c κs = search needs
 returns-3 : tie.Need-returns-3
 returns-3 c =
     let b = c .before .before .before .before in
-    settings-shape _ _ _ _ _ (b .before .number .ensures) (b .if1 .left) (c .before .before .before .is-f4 .ensures) (not-false _ (c .before .before .if2 .left)) (c .before .settings-shape .ensures) (not-true _ (c .if3 .taken))
+    settings-shape _ _ _ _ _ (b .before .passes .ensures) (not-false _ (b .if1 .left)) (c .before .before .before .is-f4 .ensures) (not-false _ (c .before .before .if2 .left)) (c .before .settings-shape .ensures) (not-true _ (c .if3 .taken))
 
 sub-if4 : tie.Need-sub-if4
 sub-if4 c = search needs
@@ -39,19 +39,19 @@ returns-4 : tie.Need-returns-4
 returns-4 c =
     let b = c .before .before .before in
     let a = b .before .before .before .before in
-    settings-cut _ _ _ _ _ (a .before .number .ensures) (a .if1 .left) (b .before .before .before .is-f4 .ensures) (not-false _ (b .before .before .if2 .left)) (b .before .settings-shape .ensures) (not-false _ (b .if3 .left)) (a .before .before .pre) (c .if4 .taken)
+    settings-cut _ _ _ _ _ (a .before .passes .ensures) (not-false _ (a .if1 .left)) (b .before .before .before .is-f4 .ensures) (not-false _ (b .before .before .if2 .left)) (b .before .settings-shape .ensures) (not-false _ (b .if3 .left)) (a .before .before .pre) (c .if4 .taken)
 
 returns-5 : tie.Need-returns-5
 returns-5 c =
     let b = c .before .before .before in
     let a = b .before .before .before .before in
-    settings-none _ _ _ _ _ (a .before .number .ensures) (a .if1 .left) (b .before .before .before .is-f4 .ensures) (not-false _ (b .before .before .if2 .left)) (b .before .settings-shape .ensures) (not-false _ (b .if3 .left)) (a .before .before .pre) (c .if4 .left)
+    settings-none _ _ _ _ _ (a .before .passes .ensures) (not-false _ (a .if1 .left)) (b .before .before .before .is-f4 .ensures) (not-false _ (b .before .before .if2 .left)) (b .before .settings-shape .ensures) (not-false _ (b .if3 .left)) (a .before .before .pre) (c .if4 .left)
 
 pub settings-refusal-spec : {M : Type 1} → statement M
 settings-refusal-spec =
     tie.close
     (tie.spec
-    number-requires
+    passes-requires
     returns
     is-f4-requires
     returns-2

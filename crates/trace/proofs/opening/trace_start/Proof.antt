@@ -1,6 +1,7 @@
 use Rattle.trace.specs.CodeLaws.{trace-refused, trace-started, place-within}
 use native.Mathlib.Omega.{arith}
 use borrow.Author.Needs.{needs}
+use borrow.Author.Tests.{not-true, not-false}
 use Rattle.trace.proofs.opening.trace_start.Statement.{statement}
 use Rattle.trace.proofs.opening.trace_start.Tie as tie
 
@@ -19,8 +20,8 @@ header-requires c κs = search needs
 trace-refusal-requires : tie.Need-trace-refusal-requires
 trace-refusal-requires c κs = search needs
 
-refused-requires : tie.Need-refused-requires
-refused-requires c κs = search needs
+passes-requires : tie.Need-passes-requires
+passes-requires c κs = search needs
 
 refused-start-requires : tie.Need-refused-start-requires
 refused-start-requires c κs = search needs
@@ -28,7 +29,7 @@ refused-start-requires c κs = search needs
 returns : tie.Need-returns
 returns c =
     let b = c .before .before .before in
-    trace-refused _ _ _ _ _ _ _ _ (b .before .header .ensures) (b .trace-refusal .ensures) (c .before .before .refused .ensures) (c .before .if1 .taken) (c .refused-start .ensures)
+    trace-refused _ _ _ _ _ _ _ _ (b .before .header .ensures) (b .trace-refusal .ensures) (c .before .before .passes .ensures) (not-true _ (c .before .if1 .taken)) (c .refused-start .ensures)
 
 add-first : tie.Need-add-first
 add-first c =
@@ -38,7 +39,7 @@ add-first c =
 returns-2 : tie.Need-returns-2
 returns-2 c =
     let b = c .before .before .before in
-    trace-started _ _ _ _ _ _ _ (b .before .header .ensures) (b .trace-refusal .ensures) (c .before .before .refused .ensures) (c .before .if1 .left)
+    trace-started _ _ _ _ _ _ _ (b .before .header .ensures) (b .trace-refusal .ensures) (c .before .before .passes .ensures) (not-false _ (c .before .if1 .left))
 
 pub trace-start-spec : {M : Type 1} → statement M
 trace-start-spec =
@@ -49,7 +50,7 @@ trace-start-spec =
     part-header-end
     header-requires
     trace-refusal-requires
-    refused-requires
+    passes-requires
     refused-start-requires
     returns
     add-first

@@ -2,38 +2,39 @@ use denote.Ref.{now}
 use Rattle.trace.specs.WholeLaws.{whole-refused, whole-trace, ready-from}
 use mathlib.Core.Path.{sym, _∙_}
 use borrow.Author.Needs.{needs}
+use borrow.Author.Tests.{not-true, not-false}
 use Rattle.trace.proofs.whole.replay.Statement.{statement}
 use Rattle.trace.proofs.whole.replay.Tie as tie
 
 start-requires : tie.Need-start-requires
 start-requires c κs = search needs
 
-refused-requires : tie.Need-refused-requires
-refused-requires c κs = search needs
+passes-requires : tie.Need-passes-requires
+passes-requires c κs = search needs
 
 replay-refused-requires : tie.Need-replay-refused-requires
-replay-refused-requires c κs = sym (c .before .before .refused .ensures) ∙ c .before .if1 .taken
+replay-refused-requires c κs = sym (c .before .before .passes .ensures) ∙ not-true _ (c .before .if1 .taken)
 
 same-length : tie.Need-same-length
 same-length c = search needs
 
 returns : tie.Need-returns
 returns c =
-    let is = whole-refused (now (c .before .before .before .before .before .before .before .before .before .args .bytes)) _ _ (c .before .before .before .before .before .before .start .ensures) (c .before .before .before .before .before .refused .ensures) (c .before .before .before .before .if1 .taken) in
+    let is = whole-refused (now (c .before .before .before .before .before .before .before .before .before .args .bytes)) _ _ (c .before .before .before .before .before .before .start .ensures) (c .before .before .before .before .before .passes .ensures) (not-true _ (c .before .before .before .before .if1 .taken)) in
     rw (is .0, is .1) (c .before .before .replay-refused .ensures)
 
 sub-replay-trace : tie.Need-sub-replay-trace
-sub-replay-trace c = ready-from (now (c .before .before .before .before .before .before .args .bytes)) _ _ (c .before .before .before .start .ensures) (c .before .before .refused .ensures) (c .before .if1 .left) .there
+sub-replay-trace c = ready-from (now (c .before .before .before .before .before .before .args .bytes)) _ _ (c .before .before .before .start .ensures) (c .before .before .passes .ensures) (not-false _ (c .before .if1 .left)) .there
 
 part-replay-trace-start : tie.Need-part-replay-trace-start
-part-replay-trace-start c = ready-from (now (c .before .before .before .before .before .before .args .bytes)) _ _ (c .before .before .before .start .ensures) (c .before .before .refused .ensures) (c .before .if1 .left) .there
+part-replay-trace-start c = ready-from (now (c .before .before .before .before .before .before .args .bytes)) _ _ (c .before .before .before .start .ensures) (c .before .before .passes .ensures) (not-false _ (c .before .if1 .left)) .there
 
 part-replay-trace-end : tie.Need-part-replay-trace-end
 part-replay-trace-end c = search needs
 
 replay-trace-requires : tie.Need-replay-trace-requires
 replay-trace-requires c κs =
-    let good = ready-from (now (c .before .before .before .before .before .before .before .before .args .bytes)) _ _ (c .before .before .before .before .before .start .ensures) (c .before .before .before .before .refused .ensures) (c .before .before .before .if1 .left) in
+    let good = ready-from (now (c .before .before .before .before .before .before .before .before .args .bytes)) _ _ (c .before .before .before .before .before .start .ensures) (c .before .before .before .before .passes .ensures) (not-false _ (c .before .before .before .if1 .left)) in
     (good .lanes, good .few)
 
 same-length-2 : tie.Need-same-length-2
@@ -41,7 +42,7 @@ same-length-2 c = search needs
 
 returns-2 : tie.Need-returns-2
 returns-2 c =
-    let is = whole-trace (now (c .before .before .before .before .before .before .before .before .before .before .before .args .bytes)) _ _ (c .before .before .before .before .before .before .before .before .start .ensures) (c .before .before .before .before .before .before .before .refused .ensures) (c .before .before .before .before .before .before .if1 .left) in
+    let is = whole-trace (now (c .before .before .before .before .before .before .before .before .before .before .before .args .bytes)) _ _ (c .before .before .before .before .before .before .before .before .start .ensures) (c .before .before .before .before .before .before .before .passes .ensures) (not-false _ (c .before .before .before .before .before .before .if1 .left)) in
     rw (is .0, is .1) (c .before .before .replay-trace .ensures)
 
 pub replay-spec : {M : Type 1} → statement M
@@ -49,7 +50,7 @@ replay-spec =
     tie.close
     (tie.spec
     start-requires
-    refused-requires
+    passes-requires
     replay-refused-requires
     same-length
     returns
