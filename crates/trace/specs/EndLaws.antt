@@ -3,12 +3,10 @@ use mathlib.Core.Path.{_≡_, refl, _∙_}
 use mathlib.Core.List.{List, [], _∷_, _++_}
 use Prim.Native.Nat.{ℕ, _+_, _/_, _%_, _≤_, _<_}
 use native.Mathlib.Numerals.{add-one}
-use native.Mathlib.Omega.{arith}
 use borrow.Author.Tests.{lt-ltb, le-ltb, le-leb, lt-leb}
 use lib.ListN.{length, getD, set, drop, drop-of-length-le}
 use lib.Seq.{sets, drop-cons}
 use Rattle.refusal.specs.declared.Refusal.{Refusal}
-use Rattle.refusal.specs.declared.Refusal.the-variants.{None, Range, Tau, Slew, Alpha, Points, Steps, Motor, Lane, Closed, Open, Magic, Header, Kind, Shape, Cut, Rest, RowSum, Window}
 use Rattle.refusal.specs.Refusal.{numberOf}
 use Rattle.trace.specs.Trace.{digits, refusedWord, refusedLine}
 use Rattle.trace.specs.Slices.{wrote, wroteCount}
@@ -35,27 +33,6 @@ module _ (out text : List ℕ) where
       (e ∙ rw (le-leb (length text) (length out) t), g ∙ rw (le-leb (length text) (length out) t))
 
 -- ---- `refused N`
-
-pub number-small : (why : Refusal) → numberOf why ≤ 18
-number-small None = omega arith
-number-small Range = omega arith
-number-small Tau = omega arith
-number-small Slew = omega arith
-number-small Alpha = omega arith
-number-small Points = omega arith
-number-small Steps = omega arith
-number-small Motor = omega arith
-number-small Lane = omega arith
-number-small Closed = omega arith
-number-small Open = omega arith
-number-small Magic = omega arith
-number-small Header = omega arith
-number-small Kind = omega arith
-number-small Shape = omega arith
-number-small Cut = omega arith
-number-small Rest = omega arith
-number-small RowSum = omega arith
-number-small Window = omega arith
 
 pub one-digit : (why : Refusal) (n : ℕ) → n ≡ numberOf why → n < 10 → refusedLine why ≡ refusedWord ++ ((n + 48) ∷ 10 ∷ [])
 unfolding refusedLine digits

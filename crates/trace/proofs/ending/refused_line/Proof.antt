@@ -1,6 +1,7 @@
 use lib.ListN.{length-set}
 use denote.Ref.{now}
-use Rattle.trace.specs.EndLaws.{one-short, two-short, one-whole, two-whole, number-small}
+use Rattle.refusal.specs.RefusalLaws.{number-small}
+use Rattle.trace.specs.EndLaws.{one-short, two-short, one-whole, two-whole}
 use native.Mathlib.Omega.{arith}
 use borrow.Author.Needs.{needs}
 use Rattle.trace.proofs.ending.refused_line.Statement.{statement}
