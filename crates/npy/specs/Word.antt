@@ -3,7 +3,8 @@ use Prim.Native.Nat.{ℕ, zero, suc, _+_, _-_, _*_, _/_, _%_}
 use mathlib.Core.List.{List, [], _∷_, _++_}
 use mathlib.Core.Bool.{Bool, cond, _&&_}
 use lib.Dec.{eqb, ltb, leb}
-use lib.ListN.{take, drop}
+use lib.ListN.{length, take, drop}
+use lib.Seq.{sets}
 use lib.Ieee as Ieee
 use lib.Ieee.{Float, binary32}
 
@@ -51,6 +52,10 @@ lineFits at n len = leb at len && leb n ((len - at) / 9)
 unfoldable pub lineEnd : ℕ → ℕ → ℕ → ℕ
 lineEnd at n len = cond (lineFits at n len) (at + 9 * n) at
 
+-- a row's line from a place on, where it fits
+unfoldable pub putLine : List ℕ → ℕ → List Float → List ℕ
+putLine out at xs = cond (lineFits at (length xs) (length out)) (sets out at (lineOf xs)) out
+
 -- n rows of k words
 unfoldable pub linesOf : ℕ → ℕ → List Float → List ℕ
 linesOf k zero xs = []
@@ -62,3 +67,7 @@ linesFit at k n len = ltb 0 k && (eqb (n % k) 0 && lineFits at n len)
 
 unfoldable pub linesEnd : ℕ → ℕ → ℕ → ℕ → ℕ
 linesEnd at k n len = cond (linesFit at k n len) (at + 9 * n) at
+
+-- the lines of rows of k words from a place on, where they are whole and fit
+unfoldable pub putLines : List ℕ → ℕ → ℕ → List Float → List ℕ
+putLines out at k xs = cond (linesFit at k (length xs) (length out)) (sets out at (linesOf k (length xs / k) xs)) out

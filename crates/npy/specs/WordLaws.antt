@@ -16,7 +16,7 @@ use Rattle.float.specs.FloatLaws.{and-left, and-right}
 use Rattle.npy.specs.Header.{lowFirst}
 use Rattle.npy.specs.Fields.{byte-at}
 use Rattle.npy.specs.Digits.{hex-bytes}
-use Rattle.npy.specs.Word.{hexOf, hexWord, wordOf, afterWord, lineOf, separator, toCome, wordsOf, lineFits, lineEnd, linesOf, linesFit}
+use Rattle.npy.specs.Word.{hexOf, hexWord, wordOf, afterWord, lineOf, separator, toCome, wordsOf, lineFits, lineEnd, putLine, linesOf, linesFit}
 
 -- nine stores one after the other
 sets9 : (l : List ℕ) (o a b c d e f g h i : ℕ)
@@ -117,12 +117,12 @@ cond-same true a = refl
 cond-same false a = refl
 
 -- no words
-pub line-empty : (at len : ℕ) (v : List Float) (l : List ℕ) → length v ≡ 0 → (at ≡ lineEnd at (length v) len) × (l ≡ cond (lineFits at (length v) len) (sets l at (lineOf v)) l)
-unfolding lineEnd lineOf
-line-empty at len [] l h =
+pub line-empty : (at : ℕ) (v : List Float) (l : List ℕ) → length v ≡ 0 → (at ≡ lineEnd at (length v) (length l)) × (l ≡ putLine l at v)
+unfolding lineEnd putLine lineOf
+line-empty at [] l h =
     let p : at + 9 * 0 ≡ at = omega arith in
-    (rw p (cond-same (lineFits at 0 len) at), cond-same (lineFits at 0 len) l)
-line-empty at len (x ∷ v) l h = absurd (omega arith)
+    (rw p (cond-same (lineFits at 0 (length l)) at), cond-same (lineFits at 0 (length l)) l)
+line-empty at (x ∷ v) l h = absurd (omega arith)
 
 pub lines-room : (at k n len : ℕ) (b : Bool) → b ≡ linesFit at k n len → b ≡ true → (1 ≤ k) × (n % k ≡ 0) × (at + 9 * n ≤ len)
 unfolding linesFit

@@ -1,12 +1,11 @@
 // Results as words of 8 lowercase hexadecimal digits, a line a row.
 ghost use mathlib.Core.Path.{_≡_};
-ghost use Prim.Native.Nat.{_+_, _*_, _/_, _≤_};
-ghost use mathlib.Core.Bool.{cond};
+ghost use Prim.Native.Nat.{_+_, _*_, _≤_};
 ghost use mathlib.Core.List.{[], _∷_, _++_};
 ghost use lib.ListN.{length};
 ghost use lib.Seq.{sets};
 ghost use Rattle.npy.specs.Header.{lowFirst};
-ghost use Rattle.npy.specs.Word.{hexWord, lineOf, lineFits, lineEnd, separator, toCome, wordsOf, linesOf, linesFit, linesEnd};
+ghost use Rattle.npy.specs.Word.{hexWord, separator, toCome, wordsOf, lineFits, lineEnd, putLine, linesFit, linesEnd, putLines};
 
 // The digits of v as the bytes of one number, the first digit lowest: all of them at once, by halves. First the two halves
 // of v stand apart, then the halves of those, then the digits, and last the letters, which come 39 places after where the digits end.
@@ -99,7 +98,7 @@ fn lines_fit(at: usize, k: usize, n: usize, len: usize) -> bool
 // Writes a row's line at a place, and answers the place after it. Where it does not fit, nothing is written and the
 // answer is the same place.
 pub fn put_line(out: &mut [u8], at: usize, values: &[f32]) -> usize
-    ensures { λ r. ⌜ (r ≡ lineEnd at (length (now (values .entry))) (length (now (out .entry)))) × (now (out .exit) ≡ cond (lineFits at (length (now (values .entry))) (length (now (out .entry)))) (sets (now (out .entry)) at (lineOf (now (values .entry)))) (now (out .entry))) ⌝ }
+    ensures { λ r. ⌜ (r ≡ lineEnd at (length (now (values .entry))) (length (now (out .entry)))) × (now (out .exit) ≡ putLine (now (out .entry)) at (now (values .entry))) ⌝ }
 {
     let n = values.len();
     if n == 0 {
@@ -115,7 +114,7 @@ pub fn put_line(out: &mut [u8], at: usize, values: &[f32]) -> usize
 // Writes the lines of rows of k values at a place, and answers the place after them. Where the values are no whole rows, or
 // their lines do not fit, nothing is written and the answer is the same place.
 pub fn put_lines(out: &mut [u8], at: usize, k: usize, values: &[f32]) -> usize
-    ensures { λ r. ⌜ (r ≡ linesEnd at k (length (now (values .entry))) (length (now (out .entry)))) × (now (out .exit) ≡ cond (linesFit at k (length (now (values .entry))) (length (now (out .entry)))) (sets (now (out .entry)) at (linesOf k (length (now (values .entry)) / k) (now (values .entry)))) (now (out .entry))) ⌝ }
+    ensures { λ r. ⌜ (r ≡ linesEnd at k (length (now (values .entry))) (length (now (out .entry)))) × (now (out .exit) ≡ putLines (now (out .entry)) at k (now (values .entry))) ⌝ }
 {
     let n = values.len();
     if !lines_fit(at, k, n, out.len()) {

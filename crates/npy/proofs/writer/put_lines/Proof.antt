@@ -1,7 +1,7 @@
 use native.Mathlib.Omega.{arith}
 use borrow.Author.Needs.{needs}
 use borrow.Author.Tests.{not-true, not-false}
-use Rattle.npy.specs.Word.{linesEnd}
+use Rattle.npy.specs.Word.{linesEnd, putLines}
 use Rattle.npy.specs.WordLaws.{lines-room, words-rows, kept, written}
 use Rattle.npy.proofs.writer.put_lines.Statement.{statement}
 use Rattle.npy.proofs.writer.put_lines.Tie as tie
@@ -10,7 +10,7 @@ lines-fit-requires : tie.Need-lines-fit-requires
 lines-fit-requires c κs = search needs
 
 returns : tie.Need-returns
-unfolding linesEnd
+unfolding linesEnd putLines
 returns c = kept _ _ _ _ (c .before .lines-fit .ensures) (not-true _ (c .if1 .taken))
 
 sub-put-words : tie.Need-sub-put-words
@@ -29,7 +29,7 @@ same-length : tie.Need-same-length
 same-length c = search needs
 
 returns-2 : tie.Need-returns-2
-unfolding linesEnd
+unfolding linesEnd putLines
 returns-2 c =
     let test = c .before .before .before .before in
     let room = lines-room _ _ _ _ _ (test .before .lines-fit .ensures) (not-false _ (test .if1 .left)) in
