@@ -18,37 +18,60 @@ use Rattle.bank.specs.Single.{Single, none, singleStep, singleRun, singl
 use Rattle.bank.specs.SingleLaws.{laneOf, Good, step-as}
 use Rattle.bank.specs.Bank.{freshBank, Eight, laneAt, bankStep}
 use Rattle.bank.specs.BankLaws.{fresh-eight, fresh-closed, step-eight, named, others}
-use Rattle.bank.specs.Runs.{For, run, after, ofLane}
+use Rattle.bank.specs.Runs.{For, run, after, ofLane, laneRun, laneAfter}
 
--- a lane in which a single controller lies answers as it does and is left as it is, whatever else is called
 pub record Apart (L : ℕ) (b : Bank) (c : Single) (calls : List (For Op)) : Type 0 where
   pub answers : ofLane L (run b calls) ≡ singleRun c (ofLane L calls)
   pub left : laneAt (after b calls) L ≡ laneOf (singleAfter c (ofLane L calls))
 
-module _ (L : ℕ) (within : L ≤ 7) where
-  pub apart : (calls : List (For Op)) (b : Bank) (c : Single) → Eight b → laneAt b L ≡ laneOf c → Good c → Apart L b c calls
-  unfolding run after ofLane singleRun singleAfter
-  apart [] b c n at g = record { answers = refl; left = at }
-  apart (q ∷ qs) b c n at g =
-      go (λ (c′ : Single). apart qs (bankStep b (q .lane) (q .thing) .bank) c′ (step-eight b (q .lane) (q .thing) n)) (eqb L (q .lane)) refl
-    where
-      next : Bank
-      next = bankStep b (q .lane) (q .thing) .bank
+-- whatever else is called on a bank, a lane answers as it would by itself, and is left so
+pub record Own (L : ℕ) (b : Bank) (calls : List (For Op)) : Type 0 where
+  pub answers : ofLane L (run b calls) ≡ laneRun (laneAt b L) (ofLane L calls)
+  pub left : laneAt (after b calls) L ≡ laneAfter (laneAt b L) (ofLane L calls)
 
-      go : ((c′ : Single) → laneAt next L ≡ laneOf c′ → Good c′ → Apart L next c′ qs) → (t : Bool) → eqb L (q .lane) ≡ t → Apart L b c (q ∷ qs)
+-- and a lane in which a single controller lies is that controller
+pub record As (c : Single) (ops : List Op) : Type 0 where
+  pub answers : laneRun (laneOf c) ops ≡ singleRun c ops
+  pub left : laneAfter (laneOf c) ops ≡ laneOf (singleAfter c ops)
+  pub good : Good (singleAfter c ops)
+
+pub single-run : (ops : List Op) (c : Single) → Good c → As c ops
+unfolding laneRun laneAfter singleRun singleAfter
+single-run [] c g = record { answers = refl; left = refl; good = g }
+single-run (op ∷ ops) c g =
+    let own = step-as c op g in
+    let rest = single-run ops (singleStep c op .single) (own .good) in
+    record { answers = simp (own .same) (ap (λ (ys : List Answer). singleStep c op .answer ∷ ys) (rest .answers)); left = simp (own .same) (rest .left); good = rest .good }
+
+module _ (L : ℕ) (within : L ≤ 7) where
+  pub lane-run : (calls : List (For Op)) (b : Bank) → Eight b → Own L b calls
+  unfolding run after ofLane laneRun laneAfter
+  lane-run [] b n = record { answers = refl; left = refl }
+  lane-run (q ∷ qs) b n = go (lane-run qs (bankStep b (q .lane) (q .thing) .bank) (step-eight b (q .lane) (q .thing) n)) (eqb L (q .lane)) refl
+    where
+      go : Own L (bankStep b (q .lane) (q .thing) .bank) qs → (t : Bool) → eqb L (q .lane) ≡ t → Own L b (q ∷ qs)
       go rest false e =
-          let r = rest c (others b (q .lane) (q .thing) L (eqb-false L (q .lane) e) ∙ at) g in
-          record { answers = simp e (r .answers); left = simp e (r .left) }
+          let same = others b (q .lane) (q .thing) L (eqb-false L (q .lane) e) in
+          record { answers = simp e (rest .answers ∙ ap (λ (l : Lane). laneRun l (ofLane L qs)) same); left = simp e (rest .left ∙ ap (λ (l : Lane). laneAfter l (ofLane L qs)) same) }
       go rest true e =
           let is : L ≡ q .lane = eqb-true L (q .lane) e in
-          let own = named b (q .lane) (q .thing) (subst (λ (x : ℕ). x ≤ 7) is within) n in
-          let here : laneAt b (q .lane) ≡ laneOf c = ap (laneAt b) (sym is) ∙ at in
-          let own-as = step-as c (q .thing) g in
-          let step : laneStep (laneAt b (q .lane)) (q .thing) ≡ stepped (singleStep c (q .thing) .answer) (laneOf (singleStep c (q .thing) .single)) = ap (λ (l : Lane). laneStep l (q .thing)) here ∙ own-as .same in
-          let heard : bankStep b (q .lane) (q .thing) .answer ≡ singleStep c (q .thing) .answer = own .0 ∙ ap (λ (s : Stepped). s .answer) step in
-          let left : laneAt next L ≡ laneOf (singleStep c (q .thing) .single) = ap (laneAt next) is ∙ own .1 ∙ ap (λ (s : Stepped). s .lane) step in
-          let r = rest (singleStep c (q .thing) .single) left (own-as .good) in
-          record { answers = simp (e, heard) (ap (λ (ys : List Answer). singleStep c (q .thing) .answer ∷ ys) (r .answers)); left = simp e (r .left) }
+          let own = named b L (q .thing) within n in
+          let named-own : (bankStep b (q .lane) (q .thing) .answer ≡ laneStep (laneAt b L) (q .thing) .answer) × (laneAt (bankStep b (q .lane) (q .thing) .bank) L ≡ laneStep (laneAt b L) (q .thing) .lane) =
+          subst (λ (i : ℕ). (bankStep b i (q .thing) .answer ≡ laneStep (laneAt b L) (q .thing) .answer) × (laneAt (bankStep b i (q .thing) .bank) L ≡ laneStep (laneAt b L) (q .thing) .lane)) is own in
+          record {
+            answers = simp (e, named-own .0) (ap (λ (ys : List Answer). laneStep (laneAt b L) (q .thing) .answer ∷ ys) (rest .answers ∙ ap (λ (l : Lane). laneRun l (ofLane L qs)) (named-own .1)));
+            left = simp e (rest .left ∙ ap (λ (l : Lane). laneAfter l (ofLane L qs)) (named-own .1));
+          }
+
+  -- a lane in which a single controller lies answers as it does and is left as it is, whatever else is called
+  pub apart : (calls : List (For Op)) (b : Bank) (c : Single) → Eight b → laneAt b L ≡ laneOf c → Good c → Apart L b c calls
+  apart calls b c n at g =
+      let own = lane-run calls b n in
+      let lies = single-run (ofLane L calls) c g in
+      record {
+        answers = own .answers ∙ ap (λ (l : Lane). laneRun l (ofLane L calls)) at ∙ lies .answers;
+        left = own .left ∙ ap (λ (l : Lane). laneAfter l (ofLane L calls)) at ∙ lies .left;
+      }
 
   -- THE RUN THEOREM: what a lane answers in a run of a fresh bank is what one controller answers to that lane's calls alone
   pub run-theorem : (calls : List (For Op)) → ofLane L (run freshBank calls) ≡ singleRun none (ofLane L calls)

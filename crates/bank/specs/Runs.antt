@@ -6,6 +6,8 @@ use lib.Dec.{eqb}
 use Rattle.bank.specs.declared.lane.Op.{Op}
 use Rattle.bank.specs.declared.lane.Answer.{Answer}
 use Rattle.bank.specs.declared.Bank.{Bank}
+use Rattle.bank.specs.declared.lane.Lane.{Lane}
+use Rattle.bank.specs.Lane.{laneStep}
 use Rattle.bank.specs.Bank.{bankStep}
 
 -- a call, or an answer, and the lane that the call names
@@ -36,3 +38,12 @@ pick false x xs = xs
 unfoldable pub ofLane : {A : Type 0} → ℕ → List (For A) → List A
 ofLane L [] = []
 ofLane L (x ∷ xs) = pick (eqb L (x .lane)) (x .thing) (ofLane L xs)
+
+-- a lane by itself: its answers to a list of calls, and the lane that they leave
+unfoldable pub laneRun : Lane → List Op → List Answer
+laneRun l [] = []
+laneRun l (op ∷ ops) = laneStep l op .answer ∷ laneRun (laneStep l op .lane) ops
+
+unfoldable pub laneAfter : Lane → List Op → Lane
+laneAfter l [] = l
+laneAfter l (op ∷ ops) = laneAfter (laneStep l op .lane) ops
