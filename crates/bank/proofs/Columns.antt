@@ -1,7 +1,7 @@
 -- Rows lane by lane: one lane's way through its rows, and then one lane after the other. Assumes nothing.
 use mathlib.Core.Path.{_≡_, refl, sym, _∙_, ap, subst}
 use mathlib.Core.Bool.{Bool, false}
-use mathlib.Core.List.{List, _++_}
+use mathlib.Core.List.{List, [], _++_}
 use mathlib.Core.Logic.{⊎-elim}
 use Prim.Native.Nat.{ℕ, suc, _+_, _-_, _*_, _≤_, _<_}
 use native.Mathlib.Omega.{arith}
@@ -12,18 +12,17 @@ use Rattle.float.specs.F32 as F
 use Rattle.refusal.specs.Cases.{lt-or-le}
 use Rattle.bank.specs.declared.lane.Lane.{Lane}
 use Rattle.bank.specs.declared.lane.Op.{Op}
-use Rattle.bank.specs.declared.lane.Answer.{Answer}
 use Rattle.bank.specs.declared.lane.Stepped.{Stepped}
 use Rattle.bank.specs.declared.Bank.{Bank}
 use Rattle.bank.specs.Lane.{closedLane, ready, laneStep}
 use Rattle.bank.specs.LaneLaws.{idle}
-use Rattle.bank.specs.Bank.{Eight, laneAt, put, bankStep}
-use Rattle.bank.specs.BankLaws.{named}
-use Rattle.bank.specs.Runs.{For, run, after}
+use Rattle.bank.specs.Bank.{Eight, laneAt, put}
+use Rattle.bank.specs.Runs.{For, run, after, ofLane, laneAfter}
+use Rattle.bank.specs.RunLaws.{lane-run}
 use Rattle.bank.specs.Rows.{updateCalls, roomFor, rowsCalls, Whole, valuesOf, rowsOut, rowsBank}
 use Rattle.bank.specs.RowsLaws.{room-is, room-under, values-length, calls-length}
-use Rattle.bank.specs.Columns.{turnOf, opAt, firstCalls, valueAt, Walked}
-use Rattle.bank.specs.ColumnsLaws.{own-turn, next-turn, between, turn-within, after-eight, first-count, first-next, first-value, first-all, stays}
+use Rattle.bank.specs.Columns.{turnOf, opAt, firstCalls, ownCalls, ownValue, Walked}
+use Rattle.bank.specs.ColumnsLaws.{own-turn, next-turn, between, turn-within, after-eight, one-more, first-count, first-value, first-all, own-next, own-stay}
 use Rattle.bank.proofs.Steps.{any}
 
 -- ---- one lane
@@ -35,14 +34,16 @@ pub record Walking (k L : ℕ) (cells : List Float) (n : ℕ) (l : Lane) (out : 
 
 module _ (k L : ℕ) (cells : List Float) (n : ℕ) (within : L < k) (few : k < 9) (fits : n * 3 ≤ length cells) (l : Lane) (out : List Float) where
   pub start : Walking k L cells n l out L l out
-  unfolding after
+  unfolding laneAfter ofLane
   start =
       let own = own-turn k in
+      let none : ownCalls k L cells n (0 + L) ≡ [] = own-stay k cells n fits L 0 L (λ i p q s. let o = sym (own i (omega arith)) ∙ s in absurd (omega arith)) in
+      let all : 0 + L ≡ L = omega arith in
       record {
         turn = own L within;
         walked = record {
-          lane = λ b eight e. let all : 0 + L ≡ L = omega arith in subst (λ (x : ℕ). laneAt (after b (take x (firstCalls k cells n))) L ≡ l) all (stays k cells n fits L b 0 L (λ i p q s. let o = sym (own i (omega arith)) ∙ s in absurd (omega arith)) ∙ e);
-          values = λ b eight e i h g s. let o = sym (own i (omega arith)) ∙ s in absurd (omega arith);
+          lane = ap (laneAfter l) (sym (rw all at none));
+          values = λ i h g s. let o = sym (own i (omega arith)) ∙ s in absurd (omega arith);
           others = λ i f. refl;
           long = refl;
         };
@@ -51,32 +52,22 @@ module _ (k L : ℕ) (cells : List Float) (n : ℕ) (within : L < k) (few : k < 
   module _ (at : ℕ) (l′ : Lane) (out′ : List Float) (w : Walking k L cells n l out at l′ out′) where
     pub turn : at < n → n ≤ length out → (next : Stepped) → next ≡ laneStep l′ (opAt cells at) → Walking k L cells n l out (at + k) (next .lane) (set out′ at (next .answer .y))
     turn h room next e =
-        let calls = firstCalls k cells n in
         let it = w .turn in
         let was = w .walked in
-        let made : (b : Bank) → Eight b → laneAt b L ≡ l → (bankStep (after b (take at calls)) L (opAt cells at) .answer ≡ next .answer) × (laneAt (bankStep (after b (take at calls)) L (opAt cells at) .bank) L ≡ next .lane) =
-        λ b eight s.
-        let own = named (after b (take at calls)) L (opAt cells at) (omega arith) (after-eight (take at calls) b eight) in
-        let step : laneStep (laneAt (after b (take at calls)) L) (opAt cells at) ≡ next = ap (λ (x : Lane). laneStep x (opAt cells at)) (was .lane b eight s) ∙ sym e in
-        (own .0 ∙ ap (λ (x : Stepped). x .answer) step, own .1 ∙ ap (λ (x : Stepped). x .lane) step) in
+        let made : next ≡ laneStep (laneAfter l (ownCalls k L cells n at)) (opAt cells at) = e ∙ ap (λ (x : Lane). laneStep x (opAt cells at)) (was .lane) in
+        let all : suc at + (k - 1) ≡ at + k = omega arith in
+        let stay : ownCalls k L cells n (at + k) ≡ ownCalls k L cells n (suc at) = rw all at (own-stay k cells n fits L (suc at) (k - 1) (λ i p q t. between k at L i within it (omega arith) (omega arith) t)) in
         record {
           turn = next-turn k at L within it;
           walked = record {
-            lane = λ b eight s.
-                let all : suc at + (k - 1) ≡ at + k = omega arith in
-                subst (λ (x : ℕ). laneAt (after b (take x calls)) L ≡ next .lane) all
-                (stays k cells n fits L b (suc at) (k - 1) (λ i p q t. between k at L i within it (omega arith) (omega arith) t)
-                ∙ ap (λ (x : Bank). laneAt x L) (first-next k cells n fits b at h ∙ ap (λ (x : ℕ). bankStep (after b (take at calls)) x (opAt cells at) .bank) it)
-                ∙ made b eight s .1);
-            values = λ b eight s i h′ g t.
+            lane = ap (λ (x : Stepped). x .lane) made ∙ sym (ap (laneAfter l) (stay ∙ own-next k cells n fits L at h it) ∙ one-more (ownCalls k L cells n at) (opAt cells at) l);
+            values = λ i h′ g t.
                 ⊎-elim
-                (λ (p : i < at). getD-set-other out′ at i _ _ (λ z. absurd (omega arith)) ∙ was .values b eight s i p g t)
+                (λ (p : i < at). getD-set-other out′ at i _ _ (λ z. absurd (omega arith)) ∙ was .values i p g t)
                 (λ (p : at ≤ i). ⊎-elim
                 (λ (q : at < i). absurd (between k at L i within it q h′ t))
-                (λ (q : i ≤ at). let same : at ≡ i = omega arith in subst (λ (x : ℕ). getD (set out′ at (next .answer .y)) x F.zero ≡ valueAt b k cells n x) same
-                (getD-set-same out′ at _ _ (omega (arith, was .long))
-                ∙ ap (λ (x : Answer). x .y) (sym (made b eight s .0))
-                ∙ ap (λ (x : ℕ). bankStep (after b (take at calls)) x (opAt cells at) .answer .y) (sym it)))
+                (λ (q : i ≤ at). let same : at ≡ i = omega arith in subst (λ (x : ℕ). getD (set out′ at (next .answer .y)) x F.zero ≡ ownValue k L cells n l x) same
+                (getD-set-same out′ at _ _ (omega (arith, was .long)) ∙ ap (λ (x : Stepped). x .answer .y) made))
                 (lt-or-le at i))
                 (lt-or-le i at);
             others = λ i f. getD-set-other out′ at i _ _ (λ z. f (ap (turnOf k) z ∙ it) (omega (arith, z))) ∙ was .others i f;
@@ -104,8 +95,8 @@ module _ (k L : ℕ) (cells : List Float) (n : ℕ) (within : L < k) (few : k < 
     walked-all h =
         let was = w .walked in
         record {
-          lane = λ b eight s. ap (λ (qs : List (For Op)). laneAt (after b qs) L) (first-all k cells n fits n (omega arith) ∙ sym (first-all k cells n fits at h)) ∙ was .lane b eight s;
-          values = λ b eight s i p g t. was .values b eight s i (omega arith) g t;
+          lane = was .lane ∙ ap (λ (qs : List (For Op)). laneAfter l (ofLane L qs)) (first-all k cells n fits at h ∙ sym (first-all k cells n fits n (omega arith)));
+          values = λ i p g t. was .values i (omega arith) g t;
           others = was .others;
           long = was .long;
         }
@@ -117,6 +108,11 @@ pub narrow : (k lanes L : ℕ) → lanes ≡ roomFor k k → L < lanes → (L < 
 narrow k lanes L e h = ⊎-elim
     (λ (r : (0 < k) × (k < 9) × ((room : ℕ) → roomFor k room ≡ room)). (omega (arith, r .2 k), r .1))
     (λ (r : (room : ℕ) → roomFor k room ≡ 0). absurd (omega (arith, r k))) (room-is k)
+
+few-lanes : (k : ℕ) → roomFor k k ≤ 8
+few-lanes k = ⊎-elim
+    (λ (r : (0 < k) × (k < 9) × ((room : ℕ) → roomFor k room ≡ room)). omega (arith, r .2 k, r .1))
+    (λ (r : (room : ℕ) → roomFor k room ≡ 0). omega (arith, r k)) (room-is k)
 
 -- where a call is made, every lane of a row is gone through
 turns-through : (k room n i L : ℕ) → n ≤ roomFor k room → i < n → roomFor k k ≤ L → turnOf k i < L
@@ -139,9 +135,9 @@ pub record Columned (k : ℕ) (cells out₀ : List Float) (n : ℕ) (b₀ : Bank
   pub eight₀ : Eight b₀
   pub eight : Eight b
   pub long : length out ≡ length out₀
-  pub made : (i : ℕ) → i < L → laneAt b i ≡ laneAt (after b₀ (firstCalls k cells n)) i
+  pub made : (i : ℕ) → i < L → laneAt b i ≡ laneAfter (laneAt b₀ i) (ownCalls k i cells n n)
   pub still : (i : ℕ) → L ≤ i → laneAt b i ≡ laneAt b₀ i
-  pub values : (i : ℕ) → i < n → turnOf k i < L → getD out i F.zero ≡ valueAt b₀ k cells n i
+  pub values : (i : ℕ) → i < n → turnOf k i < L → getD out i F.zero ≡ ownValue k (turnOf k i) cells n (laneAt b₀ (turnOf k i)) i
   pub rest : (i : ℕ) → n ≤ i → getD out i F.zero ≡ getD out₀ i F.zero
 
 module _ (k : ℕ) (cells out₀ : List Float) (n : ℕ) (b₀ : Bank) where
@@ -163,20 +159,20 @@ module _ (k : ℕ) (cells out₀ : List Float) (n : ℕ) (b₀ : Bank) where
           made = λ i p.
               ⊎-elim
               (λ (q : i < L). getD-set-other (b .lanes) L i put′ closedLane (λ z. absurd (omega (arith, z))) ∙ inv .made i q)
-              (λ (q : L ≤ i). let same : L ≡ i = omega arith in subst (λ (x : ℕ). laneAt (put b L put′) x ≡ laneAt (after b₀ (firstCalls k cells n)) x) same
-              (getD-set-same (b .lanes) L put′ closedLane held ∙ sym (w .lane b₀ (inv .eight₀) here) ∙ ap (λ (qs : List (For Op)). laneAt (after b₀ qs) L) (first-all k cells n (inv .whole .fits) n (omega arith))))
+              (λ (q : L ≤ i). let same : L ≡ i = omega arith in subst (λ (x : ℕ). laneAt (put b L put′) x ≡ laneAfter (laneAt b₀ x) (ownCalls k x cells n n)) same
+              (getD-set-same (b .lanes) L put′ closedLane held ∙ w .lane ∙ ap (λ (x : Lane). laneAfter x (ownCalls k L cells n n)) (sym here)))
               (lt-or-le i L);
           still = λ i p. getD-set-other (b .lanes) L i put′ closedLane (λ z. absurd (omega (arith, z))) ∙ inv .still i (omega arith);
           values = λ i p q.
               ⊎-elim
               (λ (g : turnOf k i < L). w .others i (λ z u. absurd (omega (arith, z))) ∙ inv .values i p g)
-              (λ (g : L ≤ turnOf k i). w .values b₀ (inv .eight₀) here i p p (omega arith))
+              (λ (g : L ≤ turnOf k i). let own : L ≡ turnOf k i = omega arith in w .values i p p (sym own) ∙ ap (λ (x : Lane). ownValue k L cells n x i) (sym here) ∙ ap (λ (x : ℕ). ownValue k x cells n (laneAt b₀ x) i) own)
               (lt-or-le (turnOf k i) L);
           rest = λ i p. w .others i (λ z u. absurd (omega arith)) ∙ inv .rest i p;
         }
 
     pub columned-all : (lanes : ℕ) → lanes ≡ roomFor k k → lanes ≤ L → (b ≡ rowsBank b₀ k cells out₀) × (out ≡ rowsOut b₀ k cells out₀)
-    unfolding rowsBank rowsOut rowsCalls after
+    unfolding rowsBank rowsOut rowsCalls laneAfter ofLane
     columned-all lanes s h =
         let w = inv .whole in
         let calls = firstCalls k cells n in
@@ -185,17 +181,18 @@ module _ (k : ℕ) (cells out₀ : List Float) (n : ℕ) (b₀ : Bank) where
         let room : n ≤ length out₀ = omega (arith, w .under, room-under k (length out₀)) in
         let count : length ys ≡ n = values-length b₀ calls ∙ first-count k cells n (w .fits) in
         let turns : (i : ℕ) → i < n → turnOf k i < L = λ i g. turns-through k (length out₀) n i L (w .under) g (omega arith) in
-        let idle-lanes : (i : ℕ) → L ≤ i → laneAt (after b₀ calls) i ≡ laneAt b₀ i = λ i g.
-        let z : 0 + n ≡ n = omega arith in
-        ap (λ (qs : List (For Op)). laneAt (after b₀ qs) i) (sym (first-all k cells n (w .fits) n (omega arith)) ∙ ap (λ (x : ℕ). take x calls) (sym z))
-        ∙ stays k cells n (w .fits) i b₀ 0 n (λ j p q s. absurd (omega (arith, turns j (omega arith), s))) in
+        let low : (i : ℕ) → i < n → turnOf k i ≤ 7 = λ i g. omega (arith, turns i g, inv .under, few-lanes k) in
+        let own : (i : ℕ) → i ≤ 7 → laneAt (after b₀ calls) i ≡ laneAfter (laneAt b₀ i) (ownCalls k i cells n n) = λ i g.
+        lane-run i g calls b₀ (inv .eight₀) .left ∙ ap (λ (qs : List (For Op)). laneAfter (laneAt b₀ i) (ofLane i qs)) (sym (first-all k cells n (w .fits) n (omega arith))) in
+        let none : (i : ℕ) → L ≤ i → ownCalls k i cells n n ≡ [] = λ i g.
+        let z : 0 + n ≡ n = omega arith in rw z at (own-stay k cells n (w .fits) i 0 n (λ j p q s. absurd (omega (arith, turns j (omega arith), s)))) in
         let lanes : b .lanes ≡ after b₀ calls .lanes =
         ext-getD closedLane (b .lanes) (after b₀ calls .lanes) (inv .eight ∙ sym (after-eight calls b₀ (inv .eight₀)))
-        (λ i g. ⊎-elim (λ (p : i < L). inv .made i p) (λ (p : L ≤ i). inv .still i p ∙ sym (idle-lanes i p)) (lt-or-le i L)) in
+        (λ i g. let seven : i ≤ 7 = omega (arith, inv .eight) in ⊎-elim (λ (p : i < L). inv .made i p ∙ sym (own i seven)) (λ (p : L ≤ i). inv .still i p ∙ sym (own i seven ∙ ap (laneAfter (laneAt b₀ i)) (none i p))) (lt-or-le i L)) in
         let long : n ≤ length out = omega (arith, inv .long) in
         let front : take n out ≡ ys =
         ext-getD F.zero (take n out) ys (length-take-le n out long ∙ sym count)
-        (λ i g. let i-in : i < n = omega (arith, length-take-le n out long) in getD-take n out i F.zero i-in ∙ inv .values i i-in (turns i i-in) ∙ sym (first-value k cells n (w .fits) b₀ i F.zero i-in)) in
+        (λ i g. let i-in : i < n = omega (arith, length-take-le n out long) in getD-take n out i F.zero i-in ∙ inv .values i i-in (turns i i-in) ∙ sym (first-value k cells n (w .fits) b₀ i F.zero (inv .eight₀) i-in (low i i-in))) in
         let back : drop n out ≡ drop n out₀ =
         ext-getD F.zero (drop n out) (drop n out₀) (length-drop n out ∙ ap (λ (x : ℕ). x - n) (inv .long) ∙ sym (length-drop n out₀))
         (λ i g. getD-drop n out i F.zero ∙ inv .rest (n + i) (omega arith) ∙ sym (getD-drop n out₀ i F.zero)) in
