@@ -7,9 +7,6 @@ use rate_pid::PidTerms;
 use told::Told;
 use told::places;
 
-// The words of a lane.
-const WORDS: usize = 32;
-
 fn lane_at(w: &[u32], at: usize) -> Lane
     requires { ⌜ at < 1000 ⌝ }
 {
@@ -32,7 +29,7 @@ pub(crate) fn bank_at(w: &[u32]) -> Bank {
     let mut bank = Bank::fresh();
     let mut i = 0;
     while i < 8 {
-        let l = lane_at(w, places::BANK + i * WORDS);
+        let l = lane_at(w, places::BANK + i * places::LANE_WORDS);
         bank.lanes[i] = l;
         i += 1;
     }
@@ -43,7 +40,7 @@ pub(crate) fn put_bank(w: &mut [u32], b: Bank) {
     let mut i = 0;
     while i < 8 {
         let l = b.lanes[i];
-        put_lane(w, places::BANK + i * WORDS, l);
+        put_lane(w, places::BANK + i * places::LANE_WORDS, l);
         i += 1;
     }
 }
@@ -56,23 +53,23 @@ pub(crate) fn show(states: &[u32], lane: usize, res: &mut [u32]) -> Told {
     if 7 < lane {
         return Told::Nothing;
     }
-    let l = lane_at(states, places::BANK + lane * WORDS);
+    let l = lane_at(states, places::BANK + lane * places::LANE_WORDS);
     put_lane(res, 0, l);
-    Told::Answer(0, WORDS)
+    Told::Answer(0, places::LANE_WORDS)
 }
 
-// The operands after the lane are the lane's words.
+// The operands after the lane are the lane's words: whether it is open, then its controller's.
 pub(crate) fn set(states: &mut [u32], lane: usize, ops: &[u32]) -> Told {
     if 7 < lane {
         return Told::Nothing;
     }
-    if 1 < told::word(ops, 13) {
+    if 1 < told::word(ops, 2 + states::INTEGRAL_EN) {
         return Told::Nothing;
     }
-    if 1 < told::word(ops, 29) {
+    if 1 < told::word(ops, 2 + states::D_SLEW) {
         return Told::Nothing;
     }
     let l = lane_at(ops, 1);
-    put_lane(states, places::BANK + lane * WORDS, l);
+    put_lane(states, places::BANK + lane * places::LANE_WORDS, l);
     Told::Answer(0, 0)
 }

@@ -6,6 +6,7 @@ use bank::Banked;
 use bank::SlewLimit;
 use rate_pid::PidTerms;
 use told::Told;
+use told::places;
 
 // An answer's numbers are an update's value or the terms, and none for the other calls.
 struct BankTold {
@@ -27,7 +28,7 @@ fn tell_bank(name: &[u8], ops: &[u32], states: &mut [u32], res: &mut [u32]) -> T
     if told::is(name, b"bank.show", ops, 1) {
         return lanes::show(states, lane, res);
     }
-    if told::is_with_bool(name, b"bank.state", ops, 33, 1) {
+    if told::is_with_bool(name, b"bank.state", ops, 1 + places::LANE_WORDS, 1) {
         return lanes::set(states, lane, ops);
     }
     let t = on_bank(name, ops, lane, lanes::bank_at(states));
@@ -85,7 +86,7 @@ fn answered(b: Banked, count: usize) -> BankTold {
 
 fn of_none(name: &[u8], lane: usize, b: Bank) -> BankTold {
     if told::same(name, b"bank.terms") {
-        return answered(b.terms(lane), 4);
+        return answered(b.terms(lane), places::TERMS_WORDS);
     }
     if told::same(name, b"bank.close") {
         return answered(b.close(lane), 0);

@@ -16,14 +16,14 @@ pub(crate) fn tell(name: &[u8], ops: &[u32], states: &mut [u32], res: &mut [u32]
     let pid = states::rate_pid_at(states, places::RATE_PID);
     if told::is(name, b"rate_pid.show", ops, 0) {
         states::put_rate_pid(res, 0, pid);
-        return Told::Answer(0, 31);
+        return Told::Answer(0, places::RATE_PID_WORDS);
     }
     if told::is(name, b"rate_pid.get_terms", ops, 0) {
         let t = pid.get_terms();
         let refusal = t.refusal;
         let terms = t.terms;
         states::put_terms(res, 0, terms);
-        return told::answered(refusal, 4);
+        return told::answered(refusal, places::TERMS_WORDS);
     }
     keep(on_rate_pid(name, ops, pid), states, res)
 }
@@ -37,12 +37,14 @@ fn keep(t: RatePidTold, states: &mut [u32], res: &mut [u32]) -> Told {
 
 fn on_rate_pid(name: &[u8], ops: &[u32], pid: RatePid) -> RatePidTold {
     let count = ops.len();
+    if count == places::RATE_PID_WORDS {
+        return of_state(name, ops, pid);
+    }
     match count {
         0 => of_none(name, pid),
         1 => of_one(name, ops, pid),
         3 => of_three(name, ops, pid),
         5 => of_five(name, ops, pid),
-        31 => of_state(name, ops, pid),
         _ => nothing(pid),
     }
 }
@@ -131,8 +133,14 @@ fn of_five(name: &[u8], ops: &[u32], pid: RatePid) -> RatePidTold {
 }
 
 fn of_state(name: &[u8], ops: &[u32], pid: RatePid) -> RatePidTold {
-    if told::word(ops, 27) < 2 {
-        if told::is_with_bool(name, b"rate_pid.state", ops, 31, 11) {
+    if told::word(ops, states::D_SLEW) < 2 {
+        if told::is_with_bool(
+            name,
+            b"rate_pid.state",
+            ops,
+            places::RATE_PID_WORDS,
+            states::INTEGRAL_EN,
+        ) {
             return taken(states::rate_pid_at(ops, 0));
         }
     }

@@ -8,6 +8,20 @@ use of_filters::states;
 use rate_pid::PidTerms;
 use rate_pid::RatePid;
 use rate_pid::Slew;
+use told::places;
+
+// Where the parts of a rate controller stand among its words, after its six numbers.
+const TERMS: usize = 6;
+
+const DT: usize = TERMS + places::TERMS_WORDS;
+
+pub const INTEGRAL_EN: usize = DT + 1;
+
+const LOWPASS: usize = INTEGRAL_EN + 1;
+
+const D_LOWPASS: usize = LOWPASS + 5;
+
+pub const D_SLEW: usize = D_LOWPASS + 10;
 
 // Three numbers in a row, as gains are.
 fn put_three(w: &mut [u32], at: usize, a: f32, b: f32, c: f32)
@@ -159,10 +173,10 @@ pub fn rate_pid_at(w: &[u32], at: usize) -> RatePid {
     if 1999 < at {
         return RatePid::zero();
     }
-    let terms = terms_at(w, at + 6);
-    let lowpass = states::lowpass_at(w, at + 12);
-    let d_lowpass = states::lowpass2_at(w, at + 17);
-    let d_slew = slew_at(w, at + 27);
+    let terms = terms_at(w, at + TERMS);
+    let lowpass = states::lowpass_at(w, at + LOWPASS);
+    let d_lowpass = states::lowpass2_at(w, at + D_LOWPASS);
+    let d_slew = slew_at(w, at + D_SLEW);
     RatePid {
         kp: told::number(w, at),
         ki: told::number(w, at + 1),
@@ -171,8 +185,8 @@ pub fn rate_pid_at(w: &[u32], at: usize) -> RatePid {
         prev_meas: told::number(w, at + 4),
         prev_ref: told::number(w, at + 5),
         terms,
-        dt: told::number(w, at + 10),
-        integral_en: told::word(w, at + 11) == 1,
+        dt: told::number(w, at + DT),
+        integral_en: told::word(w, at + INTEGRAL_EN) == 1,
         lowpass,
         d_lowpass,
         d_slew,
@@ -189,10 +203,10 @@ pub fn put_rate_pid(w: &mut [u32], at: usize, p: RatePid) {
     let d_slew = p.d_slew;
     put_three(w, at, p.kp, p.ki, p.kd);
     put_three(w, at + 3, p.integral, p.prev_meas, p.prev_ref);
-    put_terms(w, at + 6, terms);
-    told::put_number(w, at + 10, p.dt);
-    told::put_bool(w, at + 11, p.integral_en);
-    states::put_lowpass(w, at + 12, lowpass);
-    states::put_lowpass2(w, at + 17, d_lowpass);
-    put_slew(w, at + 27, d_slew);
+    put_terms(w, at + TERMS, terms);
+    told::put_number(w, at + DT, p.dt);
+    told::put_bool(w, at + INTEGRAL_EN, p.integral_en);
+    states::put_lowpass(w, at + LOWPASS, lowpass);
+    states::put_lowpass2(w, at + D_LOWPASS, d_lowpass);
+    put_slew(w, at + D_SLEW, d_slew);
 }

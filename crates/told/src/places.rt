@@ -1,32 +1,39 @@
 // One run of words keeps the state of every type, so that a line is answered with one slice lent for all of them.
 
-// Where each state's words begin.
+// How many words the terms of a rate controller have, the controller, and a lane of the bank.
+pub const TERMS_WORDS: usize = 4;
+
+pub const RATE_PID_WORDS: usize = TERMS_WORDS + 27;
+
+pub const LANE_WORDS: usize = RATE_PID_WORDS + 1;
+
+// Where each state's words begin: after those of the state before it.
 pub const LOWPASS: usize = 0;
 
-pub const LOWPASS2: usize = 5;
+pub const LOWPASS2: usize = LOWPASS + 5;
 
-pub const HIGHPASS: usize = 15;
+pub const HIGHPASS: usize = LOWPASS2 + 10;
 
-pub const COMPLEMENTARY: usize = 20;
+pub const COMPLEMENTARY: usize = HIGHPASS + 5;
 
-pub const INTEGRATING_HIGHPASS: usize = 30;
+pub const INTEGRATING_HIGHPASS: usize = COMPLEMENTARY + 10;
 
-pub const INTEGRATING_COMPLEMENTARY: usize = 34;
+pub const INTEGRATING_COMPLEMENTARY: usize = INTEGRATING_HIGHPASS + 4;
 
-pub const MOVING_AVERAGE: usize = 38;
+pub const MOVING_AVERAGE: usize = INTEGRATING_COMPLEMENTARY + 4;
 
-pub const SLEW_RATE: usize = 56;
+pub const SLEW_RATE: usize = MOVING_AVERAGE + 18;
 
-pub const MOTOR_LIN: usize = 59;
+pub const MOTOR_LIN: usize = SLEW_RATE + 3;
 
-pub const STATISTICS: usize = 65;
+pub const STATISTICS: usize = MOTOR_LIN + 6;
 
-pub const PID: usize = 69;
+pub const PID: usize = STATISTICS + 4;
 
-pub const RATE_PID: usize = 91;
+pub const RATE_PID: usize = PID + 22;
 
-// Eight lanes of 32 words.
-pub const BANK: usize = 122;
+// Eight lanes.
+pub const BANK: usize = RATE_PID + RATE_PID_WORDS;
 
 // All of them together.
-pub const ALL: usize = 378;
+pub const ALL: usize = BANK + 8 * LANE_WORDS;
