@@ -3,7 +3,7 @@ use Prim.Native.Nat.{ℕ, _+_, _-_, _*_, _%_}
 use mathlib.Core.List.{List, [], _∷_}
 use mathlib.Core.Bool.{Bool, cond, _&&_}
 use lib.ListN.{length, getD, take, drop}
-use lib.Dec.{leb, eqb}
+use lib.Dec.{ltb, leb, eqb}
 use Rattle.refusal.specs.declared.Refusal.{Refusal}
 use Rattle.refusal.specs.declared.Refusal.the-variants as Refusal
 use Rattle.refusal.specs.Refusal.{passes}
@@ -22,6 +22,10 @@ abbrev pub cellWidth : Kind → ℕ
 cellWidth F4 = 4
 cellWidth I2 = 2
 cellWidth Other = 0
+
+-- a kind that has cells
+abbrev pub isCell : Kind → Bool
+isCell k = ltb 0 (cellWidth k)
 
 unfoldable pub refusedHead : Refusal → Head
 refusedHead r = record { refusal = r; kind = Other; rows = 0; cols = 0; at = 0 }

@@ -15,7 +15,7 @@ use Rattle.refusal.specs.Refusal.{passes}
 use Rattle.npy.specs.declared.reader.Kind.{Kind}
 use Rattle.npy.specs.declared.reader.Kind.the-variants.{F4}
 use Rattle.npy.specs.declared.reader.Head.{Head}
-use Rattle.npy.specs.Header.{accepted, headerOf}
+use Rattle.npy.specs.Header.{isCell, accepted, headerOf}
 use Rattle.npy.specs.HeaderLaws.{to-end, at-within}
 use Rattle.npy.specs.Cell.{cellOf, cellsOf}
 use Rattle.bank.specs.declared.lane.Op.the-variants.{Open}
@@ -24,7 +24,7 @@ use Rattle.bank.specs.declared.Bank.{Bank}
 use Rattle.bank.specs.Bank.{freshBank, bankStep}
 use Rattle.bank.specs.Runs.{after}
 use Rattle.trace.specs.declared.course.Begun.{Begun}
-use Rattle.trace.specs.Trace.{isF4, isCell, settingsRefusal, openCalls, openedBank, traceRefusal, refusedStart, traceStart, startOf}
+use Rattle.trace.specs.Trace.{isF4, settingsRefusal, openCalls, openedBank, traceRefusal, refusedStart, traceStart, startOf}
 use Rattle.trace.specs.TraceLaws.{Settings, settings-parts}
 
 -- ---- the settings, test by test

@@ -5,7 +5,7 @@ use mathlib.Core.List.{List, [], _∷_, _++_, append-assoc, append-nil}
 use mathlib.Core.Bool.{Bool, true, false, cond, _&&_, true≢false}
 use mathlib.Core.Logic.{_⊎_, inl, inr, ⊎-elim}
 use Prim.Native.Nat.{ℕ, zero, suc, _+_, _-_, _*_, _/_, _≤_, _<_}
-use native.Mathlib.Nat.{suc-mul, zero-mul, add-comm, sub-zero, div-mul-le-self, lt-div-mul-add, le-trans, mul-le-mul-right}
+use native.Mathlib.Nat.{suc-mul, zero-mul, add-comm, sub-zero, div-mul-le-self, lt-div-mul-add, le-trans, mul-le-mul-right, mul-pos}
 use native.Mathlib.Omega.{arith}
 use lib.ListN.{length, drop, length-drop, length-append}
 use lib.Seq.{drop-drop}
@@ -17,8 +17,7 @@ use Rattle.refusal.specs.Refusal.{passes}
 use Rattle.npy.specs.declared.reader.Head.{Head}
 use Rattle.float.specs.FloatLaws.{and-left, and-right}
 use Rattle.npy.specs.declared.reader.Kind.{Kind}
-use Rattle.npy.specs.declared.reader.Kind.the-variants.{F4, I2, Other}
-use Rattle.npy.specs.Header.{cellWidth, accepted, headerOf}
+use Rattle.npy.specs.Header.{isCell, cellWidth, accepted, headerOf}
 use Rattle.npy.specs.HeaderLaws.{at-within}
 use Rattle.npy.specs.Cell.{cellOf, cellsOf, least}
 use Rattle.npy.specs.CellLaws.{cells-length}
@@ -29,7 +28,7 @@ use Rattle.bank.specs.Runs.{for, run}
 use Rattle.bank.specs.Rows.{nextLane, updateCalls, valuesOf}
 use Rattle.bank.specs.RowsLaws.{values-length, calls-length}
 use Rattle.trace.specs.declared.course.Course.{Course}
-use Rattle.trace.specs.Trace.{isF4, isCell, settingsBytes, settingsRefusal, openedBank, traceRefusal, traceStart, refusedStart, startOf, replayOf, rowWidth, rowCalls, rowLine, rowOn, nextRows, onRows, refusedLine, restText, endText, rowsText, courseText}
+use Rattle.trace.specs.Trace.{isF4, settingsBytes, settingsRefusal, openedBank, traceRefusal, traceStart, refusedStart, startOf, replayOf, rowWidth, rowCalls, rowLine, rowOn, nextRows, onRows, refusedLine, restText, endText, rowsText, courseText}
 
 -- ---- n rows are n rows, whatever is left: the trace after them
 
@@ -281,12 +280,7 @@ start-within s g =
 -- a row of an accepted trace has bytes
 pub some-bytes : (s : List ℕ) → Started s → 0 < rowWidth (startOf s .course)
 unfolding rowWidth
-some-bytes s g = rw (g .kind, g .lanes) (go (secondHead s .kind) (g .trace .1))
-  where
-    go : (kind : Kind) → isCell kind ≡ true → 0 < firstHead s .rows * 3 * cellWidth kind
-    go F4 e = omega (arith, g .settings .some)
-    go I2 e = omega (arith, g .settings .some)
-    go Other e = absurd (true≢false (sym e))
+some-bytes s g = rw (g .kind, g .lanes) (mul-pos (omega (arith, g .settings .some)) (ltb-true 0 (cellWidth (secondHead s .kind)) (g .trace .1)))
 
 -- the bytes of its rows, and what comes after them
 abbrev pub rowsOf : List ℕ → List ℕ

@@ -18,13 +18,13 @@ use Rattle.refusal.specs.Refusal.{numberOf, passes}
 use Rattle.npy.specs.declared.reader.Kind.{Kind}
 use Rattle.npy.specs.declared.reader.Head.{Head}
 use Rattle.float.specs.FloatLaws.{and-left, and-right}
-use Rattle.npy.specs.Header.{cellWidth, accepted, refusedHead, headerOf}
+use Rattle.npy.specs.Header.{isCell, cellWidth, accepted, refusedHead, headerOf}
 use Rattle.npy.specs.HeaderLaws.{to-end, refused-is}
 use Rattle.npy.specs.Cell.{least}
 use Rattle.trace.specs.declared.course.Course.{Course}
 use Rattle.trace.specs.declared.course.Begun.{Begun}
 use Rattle.trace.specs.declared.course.Went.{Went}
-use Rattle.trace.specs.Trace.{isCell, startOf, rowWidth, rowLine, rowOn, nextRows, onRows, refusedLine, restText, endText, courseText, replayOf}
+use Rattle.trace.specs.Trace.{startOf, rowWidth, rowLine, rowOn, nextRows, onRows, refusedLine, restText, endText, courseText, replayOf}
 use Rattle.trace.specs.Slices.{laned, rowsFor, rowsIn, wentOf, wrote, wroteCount, rowsRefusal, courseRefusal, replayRefusal, reasonText, replayedOf}
 use Rattle.trace.specs.EndLaws.{one-digit, two-digits}
 use Rattle.trace.specs.TraceLaws.{Whole, whole-rows, wholeRows, whole-is, rowsOf, Accepted, accepted-all, accepted-whole, firstHead, secondAt, secondHead, started, start-within, row-length, rows-length, spent-text, row-cut, rows-cut, on-left, on-kind, on-lanes, on-width}

@@ -4,7 +4,8 @@ ghost use Prim.Native.Nat.{_≤_};
 ghost use mathlib.Core.Bool.{_&&_};
 ghost use lib.Dec.{leb, eqb};
 ghost use lib.ListN.{length};
-ghost use Rattle.trace.specs.Trace.{isF4, isCell, settingsRefusal, openedBank, traceRefusal, refusedStart, traceStart, startOf};
+ghost use Rattle.npy.specs.Header.{isCell};
+ghost use Rattle.trace.specs.Trace.{isF4, settingsRefusal, openedBank, traceRefusal, refusedStart, traceStart, startOf};
 use crate::course::Begun;
 use crate::course::Course;
 use bank::Bank;
@@ -26,11 +27,7 @@ fn is_f4(kind: Kind) -> bool
 pub(crate) fn is_cell(kind: Kind) -> bool
     ensures { λ r. ⌜ r ≡ isCell kind ⌝ }
 {
-    match kind {
-        Kind::F4 => true,
-        Kind::I2 => true,
-        Kind::Other => false,
-    }
+    0 < kind.width()
 }
 
 // The shape (k, 5), k 1 to 8.
