@@ -1,6 +1,6 @@
 -- What the code's answers are, case by case. Assumes nothing.
 use mathlib.Core.Path.{_≡_, refl, sym, _∙_, subst}
-use mathlib.Core.List.{List, _∷_}
+use mathlib.Core.List.{List}
 use mathlib.Core.Bool.{Bool, true, false, cond, _&&_, true≢false}
 use Prim.Native.Nat.{ℕ, suc, _+_, _-_, _*_, _≤_, _<_}
 use native.Mathlib.Omega.{arith}
@@ -17,14 +17,16 @@ use Rattle.npy.specs.declared.reader.Kind.the-variants.{F4}
 use Rattle.npy.specs.declared.reader.Head.{Head}
 use Rattle.npy.specs.Header.{isCell, accepted, headerOf}
 use Rattle.npy.specs.HeaderLaws.{to-end, at-within}
-use Rattle.npy.specs.Cell.{cellOf, cellsOf}
+use Rattle.npy.specs.Cell.{cellOf}
+use Rattle.trace.specs.Turns.{inTurn, each}
+use Rattle.bank.specs.declared.lane.Op.{Op}
 use Rattle.bank.specs.declared.lane.Op.the-variants.{Open}
 use Rattle.bank.specs.declared.lane.SlewLimit.the-variants.{Off}
 use Rattle.bank.specs.declared.Bank.{Bank}
 use Rattle.bank.specs.Bank.{freshBank, bankStep}
 use Rattle.bank.specs.Runs.{after}
 use Rattle.trace.specs.declared.course.Begun.{Begun}
-use Rattle.trace.specs.Trace.{isF4, settingsRefusal, openCalls, openedBank, traceRefusal, refusedStart, traceStart, startOf}
+use Rattle.trace.specs.Trace.{isF4, settingsRefusal, openOf, openedBank, traceRefusal, refusedStart, traceStart, startOf}
 use Rattle.trace.specs.TraceLaws.{Settings, settings-parts}
 
 -- ---- the settings, test by test
@@ -85,33 +87,26 @@ module _ (k : ℕ) (h : Head) where
 
 -- ---- the lanes that are opened
 
+pub opens : (kp ki kd tau dt : Float) (s : List ℕ) (i : ℕ)
+    → kp ≡ cellOf F4 (drop i s) → ki ≡ cellOf F4 (drop (i + 4) s) → kd ≡ cellOf F4 (drop (i + 8) s) → tau ≡ cellOf F4 (drop (i + 12) s) → dt ≡ cellOf F4 (drop (i + 16) s)
+    → Open kp ki kd tau dt Off ≡ openOf (drop i s)
+unfolding openOf
+opens kp ki kd tau dt s i e1 e2 e3 e4 e5 = rw (e1, e2, e3, e4, e5, drop-drop 4 i s, drop-drop 8 i s, drop-drop 12 i s, drop-drop 16 i s)
+
 module _ (s : List ℕ) where
-  -- five cells from a place on
-  five : (n i : ℕ) → cellsOf F4 (suc (suc (suc (suc (suc n))))) (drop i s)
-      ≡ cellOf F4 (drop i s) ∷ (cellOf F4 (drop (i + 4) s) ∷ (cellOf F4 (drop (i + 8) s) ∷ (cellOf F4 (drop (i + 12) s) ∷ (cellOf F4 (drop (i + 16) s) ∷ cellsOf F4 n (drop (i + 20) s)))))
-  unfolding cellsOf
-  five n i =
-      let a : i + 4 + 4 ≡ i + 8 = omega arith in
-      let b : i + 8 + 4 ≡ i + 12 = omega arith in
-      let d : i + 12 + 4 ≡ i + 16 = omega arith in
-      let e : i + 16 + 4 ≡ i + 20 = omega arith in
-      simp (drop-drop, a, b, d, e)
-
-  pub open-more : (k lane i : ℕ) (b : Bank) (kp ki kd tau dt : Float) → lane < k
-      → kp ≡ cellOf F4 (drop i s) → ki ≡ cellOf F4 (drop (i + 4) s) → kd ≡ cellOf F4 (drop (i + 8) s) → tau ≡ cellOf F4 (drop (i + 12) s) → dt ≡ cellOf F4 (drop (i + 16) s)
-      → after (bankStep b lane (Open kp ki kd tau dt Off) .bank) (openCalls (lane + 1) (cellsOf F4 ((k - (lane + 1)) * 5) (drop (i + 20) s)))
-      ≡ after b (openCalls lane (cellsOf F4 ((k - lane) * 5) (drop i s)))
-  unfolding openCalls after
-  open-more k lane i b kp ki kd tau dt h e1 e2 e3 e4 e5 =
-      let a : (k - lane) * 5 ≡ suc (suc (suc (suc (suc ((k - (lane + 1)) * 5))))) = omega arith in
+  pub open-more : (k lane i : ℕ) (b : Bank) (op : Op) → lane < k → op ≡ openOf (drop i s)
+      → after (bankStep b lane op .bank) (inTurn (lane + 1) (each openOf 20 (k - (lane + 1)) (drop (i + 20) s))) ≡ after b (inTurn lane (each openOf 20 (k - lane) (drop i s)))
+  unfolding inTurn each after
+  open-more k lane i b op h e =
+      let a : k - lane ≡ suc (k - (lane + 1)) = omega arith in
       let l : lane + 1 ≡ suc lane = omega arith in
-      rw (a, five ((k - (lane + 1)) * 5) i, ← e1, ← e2, ← e3, ← e4, ← e5, l)
+      rw (a, e, l, drop-drop 20 i s)
 
-  pub open-done : (k lane i : ℕ) (b : Bank) → k ≤ lane → b ≡ after b (openCalls lane (cellsOf F4 ((k - lane) * 5) (drop i s)))
-  unfolding openCalls after cellsOf
-  open-done k lane i b h = let a : (k - lane) * 5 ≡ 0 = omega arith in rw a
+  pub open-done : (k lane i : ℕ) (b : Bank) → k ≤ lane → b ≡ after b (inTurn lane (each openOf 20 (k - lane) (drop i s)))
+  unfolding inTurn each after
+  open-done k lane i b h = let a : k - lane ≡ 0 = omega arith in rw a
 
-  pub open-start : (k : ℕ) (b : Bank) → b ≡ freshBank → after b (openCalls 0 (cellsOf F4 ((k - 0) * 5) (drop 0 s))) ≡ openedBank k s
+  pub open-start : (k : ℕ) (b : Bank) → b ≡ freshBank → after b (inTurn 0 (each openOf 20 (k - 0) (drop 0 s))) ≡ openedBank k s
   unfolding openedBank
   open-start k b e = let a : k - 0 ≡ k = omega arith in rw (e, a)
 

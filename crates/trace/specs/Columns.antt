@@ -35,57 +35,9 @@ use Rattle.bank.specs.Rows.{nextLane, updateCalls, valuesOf}
 use Rattle.bank.specs.RowsLaws.{values-length}
 use Rattle.bank.specs.ColumnsLaws.{after-eight}
 use Rattle.trace.specs.declared.course.Course.{Course}
-use Rattle.trace.specs.Trace.{openCalls, openedBank, startOf, replayOf, rowWidth, rowCalls, rowLine, rowOn, nextRows}
+use Rattle.trace.specs.Turns.{inTurn, each, lane-of, each-length, each-at, lane-of-each}
+use Rattle.trace.specs.Trace.{openOf, openedBank, startOf, replayOf, rowWidth, rowCalls, rowLine, rowOn, nextRows}
 use Rattle.trace.specs.TraceLaws.{updateOf, calls-more, row-length, row-count, Whole, accepted-prints, started, rowsOf, Accepted, accepted-all}
-
--- ---- lane after lane
-
--- things for a lane, the next lane, and so on
-unfoldable pub inTurn : {A : Type 0} → ℕ → List A → List (For A)
-inTurn lane [] = []
-inTurn lane (x ∷ xs) = for lane x ∷ inTurn (suc lane) xs
-
-pub turn-past : {A : Type 0} (L lane : ℕ) (xs : List A) → L < lane → ofLane L (inTurn lane xs) ≡ []
-unfolding inTurn ofLane
-turn-past L lane [] h = refl
-turn-past L lane (x ∷ xs) h =
-    let other : L ≡ lane → ⊥ = λ e. omega arith in
-    rw (ne-eqb L lane other) (turn-past L (suc lane) xs (omega arith))
-
--- a lane has the one in its place
-pub turn-at : {A : Type 0} (i lane : ℕ) (xs : List A) (d : A) → i < length xs → ofLane (lane + i) (inTurn lane xs) ≡ getD xs i d ∷ []
-unfolding inTurn ofLane
-turn-at i lane [] d h = absurd (omega arith)
-turn-at zero lane (x ∷ xs) d h = rw (add-zero lane, eq-eqb lane lane refl, turn-past lane (suc lane) xs (omega arith))
-turn-at (suc i) lane (x ∷ xs) d h =
-    let other : lane + suc i ≡ lane → ⊥ = λ e. omega arith in
-    let e : lane + suc i ≡ suc lane + i = omega arith in
-    rw (ne-eqb (lane + suc i) lane other, e) (turn-at i (suc lane) xs d (omega arith))
-
-pub lane-of : {A : Type 0} (L : ℕ) (xs : List A) (d : A) → L < length xs → ofLane L (inTurn 0 xs) ≡ getD xs L d ∷ []
-lane-of L xs d h = rw zero-add at (turn-at L 0 xs d h)
-
--- n things one after the other, each read from w bytes
-unfoldable pub each : {A : Type 0} → (List ℕ → A) → ℕ → ℕ → List ℕ → List A
-each f w zero s = []
-each f w (suc n) s = f s ∷ each f w n (drop w s)
-
-pub each-length : {A : Type 0} (f : List ℕ → A) (w n : ℕ) (s : List ℕ) → length (each f w n s) ≡ n
-unfolding each
-each-length f w zero s = refl
-each-length f w (suc n) s = ap suc (each-length f w n (drop w s))
-
-pub each-at : {A : Type 0} (f : List ℕ → A) (w n : ℕ) (s : List ℕ) (i : ℕ) (d : A) → i < n → getD (each f w n s) i d ≡ f (drop (i * w) s)
-unfolding each
-each-at f w zero s i d h = absurd (omega arith)
-each-at f w (suc n) s zero d h = rw (zero-mul w)
-each-at f w (suc n) s (suc i) d h =
-    each-at f w n (drop w s) i d (omega arith) ∙ rw (suc-mul i w, add-comm (i * w) w, drop-drop)
-
-pub lane-of-each : {A : Type 0} (f : List ℕ → A) (w n : ℕ) (s : List ℕ) (L : ℕ) → L < n → ofLane L (inTurn 0 (each f w n s)) ≡ f (drop (L * w) s) ∷ []
-lane-of-each f w n s L h =
-    let len = each-length f w n s in
-    lane-of L (each f w n s) (f s) (omega arith) ∙ ap (λ (x : _). x ∷ []) (each-at f w n s L (f s) h)
 
 -- ---- the calls of a file
 
@@ -100,17 +52,6 @@ updates-turn kind k (suc (suc n)) lane s e =
     calls-more kind k lane (suc n) s
     ∙ ap (λ (l : List (For Op)). for lane (updateOf kind s) ∷ l)
     (rw (lt-ltb (suc lane) k next) (updates-turn kind k (suc n) (suc lane) (drop (3 * cellWidth kind) s) (omega arith)))
-
--- what a lane is opened with: the five settings that a list begins with
-unfoldable pub openOf : List ℕ → Op
-openOf s = Open (cellOf F4 s) (cellOf F4 (drop 4 s)) (cellOf F4 (drop 8 s)) (cellOf F4 (drop 12 s)) (cellOf F4 (drop 16 s)) Off
-
-pub opens-turn : (n lane : ℕ) (s : List ℕ) → openCalls lane (cellsOf F4 (n * 5) s) ≡ inTurn lane (each openOf 20 n s)
-unfolding inTurn each openCalls cellsOf openOf
-opens-turn zero lane s = refl
-opens-turn (suc n) lane s =
-    let e : suc n * 5 ≡ suc (suc (suc (suc (suc (n * 5))))) = omega arith in
-    rw (e, drop-drop 4 4 s, drop-drop 4 8 s, drop-drop 4 12 s, drop-drop 4 16 s, opens-turn n (suc lane) (drop 20 s))
 
 -- ---- the answers of a run
 
@@ -296,8 +237,8 @@ opened-single s L =
 pub opened-lies : (k : ℕ) (s : List ℕ) (L : ℕ) → k ≤ 8 → L < k → Lies L (openedBank k s) (controllerAt s L)
 unfolding openedBank
 opened-lies k s L h l =
-    let calls = openCalls 0 (cellsOf F4 (k * 5) s) in
-    let own : ofLane L calls ≡ openOf (drop (L * 20) s) ∷ [] = ap (ofLane L) (opens-turn k 0 s) ∙ lane-of-each openOf 20 k s L l in
+    let calls = inTurn 0 (each openOf 20 k s) in
+    let own : ofLane L calls ≡ openOf (drop (L * 20) s) ∷ [] = lane-of-each openOf 20 k s L l in
     let low : L ≤ 7 = omega arith in
     subst (λ (σ : Single). Lies L (after freshBank calls) σ) (ap (singleAfter none) own ∙ opened-single s L) (lies-after L low calls freshBank none (fresh-lies L low))
 

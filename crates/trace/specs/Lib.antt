@@ -1,3 +1,4 @@
+pub mod Turns
 pub mod Trace
 pub mod TraceLaws
 pub mod Windows

@@ -18,11 +18,12 @@ use Rattle.npy.specs.declared.reader.Kind.the-variants.{F4}
 use Rattle.npy.specs.declared.reader.Head.{Head}
 use Rattle.npy.specs.HeaderLaws.{drop-take, at-within}
 use Rattle.npy.specs.HeaderStart.{leb-take, window-decides}
-use Rattle.npy.specs.CellLaws.{cells-take}
+use Rattle.npy.specs.CellLaws.{cell-start, cells-take}
+use Rattle.trace.specs.Turns.{each-take}
 use Rattle.npy.specs.Header.{headerOf, accepted}
 use Rattle.bank.specs.declared.Bank.{Bank}
 use Rattle.trace.specs.declared.course.Course.{Course}
-use Rattle.trace.specs.Trace.{isF4, settingsBytes, settingsRefusal, openedBank, refusedStart, traceStart, startOf, replayOf, refusedLine, endText, rowWidth, rowCalls, rowLine, rowOn, nextRows, onRows, courseText}
+use Rattle.trace.specs.Trace.{isF4, settingsBytes, settingsRefusal, openOf, openedBank, refusedStart, traceStart, startOf, replayOf, refusedLine, endText, rowWidth, rowCalls, rowLine, rowOn, nextRows, onRows, courseText}
 use Rattle.trace.specs.TraceLaws.{rows-on, width-on, rows-cut, end-rest, Spent, spent-text, whole-spent, wholeRows, whole-is, on-width, settings-parts, secondAt, started, start-within, some-bytes}
 
 -- ---- rows are read from their own bytes alone
@@ -135,9 +136,14 @@ trace-take k b at n s h =
     let e : headerOf (drop at (take n s)) ≡ headerOf (drop at s) = rw (drop-take at n s) (window-decides (n - at) (drop at s) (omega arith)) in
     rw e
 
+open-take : (m : ℕ) (s : List ℕ) → 20 ≤ m → openOf (take m s) ≡ openOf s
+unfolding openOf
+open-take m s h =
+    rw (drop-take 4 m s, drop-take 8 m s, drop-take 12 m s, drop-take 16 m s, cell-start F4 m s (omega arith), cell-start F4 (m - 4) (drop 4 s) (omega arith), cell-start F4 (m - 8) (drop 8 s) (omega arith), cell-start F4 (m - 12) (drop 12 s) (omega arith), cell-start F4 (m - 16) (drop 16 s) (omega arith))
+
 opened-take : (k at n : ℕ) (s : List ℕ) → at + k * 20 ≤ n → openedBank k (drop at (take n s)) ≡ openedBank k (drop at s)
 unfolding openedBank
-opened-take k at n s h = rw (drop-take at n s, cells-take F4 (k * 5) (n - at) (drop at s) (omega arith))
+opened-take k at n s h = rw (drop-take at n s, each-take openOf 20 k (n - at) (drop at s) open-take (omega arith))
 
 settings-take : (n : ℕ) (s : List ℕ) (h : Head) → h .at + 160 ≤ n → settingsRefusal h (length (take n s)) ≡ settingsRefusal h (length s)
 unfolding settingsRefusal

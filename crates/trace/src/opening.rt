@@ -3,12 +3,13 @@ ghost use mathlib.Core.Path.{_≡_};
 ghost use Prim.Native.Nat.{_≤_};
 ghost use mathlib.Core.Bool.{_&&_};
 ghost use lib.Dec.{leb, eqb};
-ghost use lib.ListN.{length};
+ghost use lib.ListN.{length, drop};
 ghost use Rattle.npy.specs.Header.{isCell};
-ghost use Rattle.trace.specs.Trace.{isF4, settingsRefusal, openedBank, traceRefusal, refusedStart, traceStart, startOf};
+ghost use Rattle.trace.specs.Trace.{isF4, settingsRefusal, openOf, openedBank, traceRefusal, refusedStart, traceStart, startOf};
 use crate::course::Begun;
 use crate::course::Course;
 use bank::Bank;
+use bank::Op;
 use bank::SlewLimit;
 use npy::Head;
 use npy::Kind;
@@ -84,6 +85,27 @@ fn trace_refusal(k: usize, head: Head) -> Refusal
     Refusal::None
 }
 
+// What a lane is opened with, by the settings from a place on.
+fn open_at(settings: &[u8], at: usize) -> Op
+    requires { ⌜ at ≤ 160 ⌝ }
+    ensures { λ r. ⌜ r ≡ openOf (drop at (now (settings .entry))) ⌝ }
+{
+    let kp = npy::cell(Kind::F4, settings, at);
+    let ki = npy::cell(Kind::F4, settings, at + 4);
+    let kd = npy::cell(Kind::F4, settings, at + 8);
+    let tau = npy::cell(Kind::F4, settings, at + 12);
+    let dt = npy::cell(Kind::F4, settings, at + 16);
+    let slew = SlewLimit::Off;
+    Op::Open {
+        kp,
+        ki,
+        kd,
+        tau,
+        dt,
+        slew,
+    }
+}
+
 // A fresh bank with lanes 0 to k - 1 opened by the settings.
 fn opened(k: usize, settings: &[u8]) -> Bank
     requires { ⌜ k ≤ 8 ⌝ }
@@ -93,12 +115,7 @@ fn opened(k: usize, settings: &[u8]) -> Bank
     let mut lane = 0usize;
     let mut at = 0usize;
     while lane < k {
-        let kp = npy::cell(Kind::F4, settings, at);
-        let ki = npy::cell(Kind::F4, settings, at + 4);
-        let kd = npy::cell(Kind::F4, settings, at + 8);
-        let tau = npy::cell(Kind::F4, settings, at + 12);
-        let dt = npy::cell(Kind::F4, settings, at + 16);
-        let next = bank.open(lane, kp, ki, kd, tau, dt, SlewLimit::Off);
+        let next = bank.step(lane, open_at(settings, at));
         bank = next.bank;
         lane += 1;
         at += 20;
