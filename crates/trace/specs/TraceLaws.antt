@@ -28,7 +28,7 @@ use Rattle.bank.specs.Runs.{for, run}
 use Rattle.bank.specs.Rows.{nextLane, updateCalls, valuesOf}
 use Rattle.bank.specs.RowsLaws.{values-length, calls-length}
 use Rattle.trace.specs.declared.course.Course.{Course}
-use Rattle.trace.specs.Trace.{isF4, settingsBytes, settingsRefusal, openedBank, traceRefusal, traceStart, refusedStart, startOf, replayOf, rowWidth, rowCalls, rowLine, rowOn, nextRows, onRows, refusedLine, restText, endText, rowsText, courseText}
+use Rattle.trace.specs.Trace.{isF4, settingsBytes, settingsRefusal, openedBank, traceRefusal, traceStart, refusedStart, startOf, replayOf, rowWidth, rowCalls, rowLine, rowOn, nextRows, onRows, rowRefusal, restRefusal, rowsRefusal, courseRefusal, endRefusal, refusedLine, reasonText, endText, rowsText, courseText}
 
 -- ---- n rows are n rows, whatever is left: the trace after them
 
@@ -58,16 +58,29 @@ pub width-on : (c : Course) (n : ℕ) (s : List ℕ) → rowWidth (rowOn c n s) 
 unfolding rowWidth rowOn
 width-on c n s = refl
 
-row-whole : (n : ℕ) (c : Course) (s : List ℕ) → rowWidth c ≤ length s
-    → rowsText (suc n) c s ≡ rowLine c s ++ rowsText n (rowOn c n s) (drop (rowWidth c) s)
-unfolding rowsText
-row-whole n c s h = rw (le-ltb (length s) (rowWidth c) h)
+-- a row that is there whole is not refused
+row-passes : (c : Course) (s : List ℕ) → rowWidth c ≤ length s → passes (rowRefusal c s) ≡ true
+unfolding rowRefusal passes
+row-passes c s h = rw (le-ltb (length s) (rowWidth c) h)
 
--- a whole row that is left is printed, and the trace goes on behind it
+row-taken : (n : ℕ) (c : Course) (s : List ℕ) → passes (rowRefusal c s) ≡ true
+    → (rowsText (suc n) c s ≡ rowLine c s ++ rowsText n (rowOn c n s) (drop (rowWidth c) s)) × (rowsRefusal (suc n) c s ≡ rowsRefusal n (rowOn c n s) (drop (rowWidth c) s))
+unfolding rowsText rowsRefusal
+row-taken n c s h = (rw h, rw h)
+
+-- a row that is left and is not refused: the trace goes on behind it, with what it is refused with
+pub refusal-on : (c : Course) (s : List ℕ) → 0 < c .left → passes (rowRefusal c s) ≡ true → courseRefusal c s ≡ courseRefusal (rowOn c (c .left - 1) s) (drop (rowWidth c) s)
+unfolding courseRefusal rowOn
+refusal-on c s hl hs = let e : c .left ≡ suc (c .left - 1) = omega arith in ap (λ (n : ℕ). rowsRefusal n c s) e ∙ row-taken (c .left - 1) c s hs .1
+
+-- and its line is printed
 pub row-cut : (c : Course) (s : List ℕ) → 0 < c .left → rowWidth c ≤ length s
     → courseText c s ≡ rowLine c s ++ courseText (rowOn c (c .left - 1) s) (drop (rowWidth c) s)
 unfolding courseText rowOn
-row-cut c s hl hs = let e : c .left ≡ suc (c .left - 1) = omega arith in ap (λ (n : ℕ). rowsText n c s) e ∙ row-whole (c .left - 1) c s hs
+row-cut c s hl hs =
+    let e : c .left ≡ suc (c .left - 1) = omega arith in
+    let h = row-passes c s hs in
+    rw (refusal-on c s hl h) (ap (λ (n : ℕ). rowsText n c s ++ reasonText (courseRefusal (rowOn c (c .left - 1) s) (drop (rowWidth c) s))) e ∙ rw (row-taken (c .left - 1) c s h .0, append-assoc))
 
 -- of the bytes of some rows, those after the first
 pub rows-on : (n w len : ℕ) → suc n * w ≤ len → (w ≤ len) × (n * w ≤ len - w)
@@ -85,24 +98,35 @@ rows-cut (suc n) c s hl hs =
     let m : n * rowWidth next ≤ length (drop w s) = rw (width-on c (c .left - 1) s, length-drop) (b .1) in
     rw (row-cut c s (omega arith) (b .0), rows-cut n next (drop w s) l m, append-assoc, suc-mul, width-on c (c .left - 1) s, drop-drop, add-comm (n * w) w)
 
+pub refusal-cut : (n : ℕ) (c : Course) (s : List ℕ) → n ≤ c .left → n * rowWidth c ≤ length s → courseRefusal c s ≡ courseRefusal (onRows n c s) (drop (n * rowWidth c) s)
+unfolding onRows rowOn
+refusal-cut zero c s hl hs = rw zero-mul
+refusal-cut (suc n) c s hl hs =
+    let w = rowWidth c in
+    let next : Course = rowOn c (c .left - 1) s in
+    let b = rows-on n w (length s) hs in
+    let l : n ≤ c .left - 1 = omega arith in
+    let m : n * rowWidth next ≤ length (drop w s) = rw (width-on c (c .left - 1) s, length-drop) (b .1) in
+    refusal-on c s (omega arith) (row-passes c s (b .0)) ∙ rw (refusal-cut n next (drop w s) l m, suc-mul, width-on c (c .left - 1) s, drop-drop, add-comm (n * w) w)
+
 -- ---- the whole rows, and then one ending
 
 -- 15 where rows are missing
 pub end-cut : (n : ℕ) (s : List ℕ) → 0 < n → endText n s ≡ refusedLine Refusal.Cut
-unfolding endText
+unfolding endText endRefusal reasonText passes
 end-cut zero s h = absurd (omega arith)
 end-cut (suc n) s h = refl
 
 -- 16 where there are bytes after the last row
 pub end-rest : (n : ℕ) (s : List ℕ) → n ≤ 0 → 0 < length s → endText n s ≡ refusedLine Refusal.Rest
-unfolding endText restText
+unfolding endText endRefusal restRefusal reasonText passes
 end-rest zero [] h g = absurd (omega arith)
 end-rest zero (x ∷ xs) h g = refl
 end-rest (suc n) s h g = absurd (omega arith)
 
 -- else nothing
 pub end-none : (n : ℕ) (s : List ℕ) → n ≤ 0 → length s ≤ 0 → endText n s ≡ []
-unfolding endText restText
+unfolding endText endRefusal restRefusal reasonText passes
 end-none zero [] h g = refl
 end-none zero (x ∷ xs) h g = absurd (omega arith)
 end-none (suc n) s h g = absurd (omega arith)
@@ -111,11 +135,19 @@ end-none (suc n) s h g = absurd (omega arith)
 abbrev pub Spent : Course → List ℕ → Type 0
 Spent c s = (c .left ≡ 0) ⊎ (length s < rowWidth c)
 
-pub spent-text : (c : Course) (s : List ℕ) → Spent c s → courseText c s ≡ endText (c .left) s
-unfolding courseText rowsText endText
-spent-text c s h = go (c .left) h
+pub spent-refusal : (c : Course) (s : List ℕ) → Spent c s → courseRefusal c s ≡ endRefusal (c .left) s
+unfolding courseRefusal rowsRefusal rowRefusal endRefusal passes
+spent-refusal c s h = go (c .left) h
   where
-    go : (n : ℕ) → (n ≡ 0) ⊎ (length s < rowWidth c) → rowsText n c s ≡ endText n s
+    go : (n : ℕ) → (n ≡ 0) ⊎ (length s < rowWidth c) → rowsRefusal n c s ≡ endRefusal n s
+    go zero h = refl
+    go (suc n) h = ⊎-elim (λ (e : suc n ≡ 0). absurd (omega arith)) (λ (l : length s < rowWidth c). rw (lt-ltb (length s) (rowWidth c) l)) h
+
+pub spent-text : (c : Course) (s : List ℕ) → Spent c s → courseText c s ≡ endText (c .left) s
+unfolding courseText endText rowsText rowRefusal passes
+spent-text c s h = rw (spent-refusal c s h, go (c .left) h)
+  where
+    go : (n : ℕ) → (n ≡ 0) ⊎ (length s < rowWidth c) → rowsText n c s ≡ []
     go zero h = refl
     go (suc n) h = ⊎-elim (λ (e : suc n ≡ 0). absurd (omega arith)) (λ (l : length s < rowWidth c). rw (lt-ltb (length s) (rowWidth c) l)) h
 

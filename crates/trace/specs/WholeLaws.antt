@@ -24,10 +24,10 @@ use Rattle.npy.specs.Cell.{least}
 use Rattle.trace.specs.declared.course.Course.{Course}
 use Rattle.trace.specs.declared.course.Begun.{Begun}
 use Rattle.trace.specs.declared.course.Went.{Went}
-use Rattle.trace.specs.Trace.{startOf, rowWidth, rowLine, rowOn, nextRows, onRows, refusedLine, restText, endText, courseText, replayOf}
-use Rattle.trace.specs.Slices.{laned, rowsFor, rowsIn, wentOf, wrote, wroteCount, rowsRefusal, courseRefusal, replayRefusal, reasonText, replayedOf}
+use Rattle.trace.specs.Trace.{startOf, rowWidth, rowLine, rowOn, nextRows, onRows, restRefusal, courseRefusal, endRefusal, refusedLine, reasonText, endText, courseText, replayOf}
+use Rattle.trace.specs.Slices.{laned, rowsFor, rowsIn, wentOf, wrote, wroteCount, replayRefusal, replayedOf}
 use Rattle.trace.specs.EndLaws.{one-digit, two-digits}
-use Rattle.trace.specs.TraceLaws.{Whole, whole-rows, wholeRows, whole-is, rowsOf, Accepted, accepted-all, accepted-whole, firstHead, secondAt, secondHead, started, start-within, row-length, rows-length, spent-text, row-cut, rows-cut, on-left, on-kind, on-lanes, on-width}
+use Rattle.trace.specs.TraceLaws.{Whole, whole-spent, whole-rows, refusal-cut, spent-refusal, wholeRows, whole-is, rowsOf, Accepted, accepted-all, accepted-whole, firstHead, secondAt, secondHead, started, start-within, row-length, rows-length, spent-text, row-cut, rows-cut, on-left, on-kind, on-lanes, on-width}
 use Rattle.trace.specs.RowsLaws.{room, sets-append, laned-parts, width-range}
 
 -- a header names fewer than 10⁹ rows; refused, none
@@ -72,67 +72,44 @@ next-length n c s = rows-length n c s ∙ ap (λ (m : ℕ). n * m) (mul-comm 9 (
 pub over : (c : Course) (s : List ℕ) → (0 < c .left → length s < rowWidth c) → courseText c s ≡ endText (c .left) s
 over c s h = spent-text c s (⊎-elim (λ (l : 0 < c .left). inr (h l)) (λ (g : c .left ≤ 0). inl (omega arith)) (lt-or-le 0 (c .left)))
 
--- what is printed there is the line of what the trace is refused with
-over-reason : (l w : ℕ) (s : List ℕ) → (0 < l → length s < w) → endText l s ≡ reasonText (rowsRefusal l w (length s))
-unfolding rowsRefusal reasonText passes restText endText
-over-reason zero w [] h = refl
-over-reason zero w (x ∷ s) h = rw (lt-ltb 0 (suc (length s)) (omega arith))
-over-reason (suc l) w s h = rw (lt-ltb (length s) w (h (omega arith)))
+ends-cut : (l : ℕ) (s : List ℕ) → 0 < l → endRefusal l s ≡ Refusal.Cut
+unfolding endRefusal
+ends-cut zero s h = absurd (omega arith)
+ends-cut (suc l) s h = refl
 
-refusal-short : (l w len : ℕ) → 0 < l → len < w → rowsRefusal l w len ≡ Refusal.Cut
-unfolding rowsRefusal
-refusal-short zero w len h g = absurd (omega arith)
-refusal-short (suc l) w len h g = rw (lt-ltb len w g)
+ends-rest : (s : List ℕ) → 0 < length s → endRefusal 0 s ≡ Refusal.Rest
+unfolding endRefusal restRefusal
+ends-rest [] h = absurd (omega arith)
+ends-rest (x ∷ s) h = refl
 
-refusal-some : (l w len : ℕ) → l ≡ 0 → 0 < len → rowsRefusal l w len ≡ Refusal.Rest
-unfolding rowsRefusal
-refusal-some l w len h g = rw (h, lt-ltb 0 len g)
-
-refusal-none : (l w len : ℕ) → l ≡ 0 → len ≡ 0 → rowsRefusal l w len ≡ Refusal.None
-unfolding rowsRefusal
-refusal-none l w len h g = rw (h, g)
-
--- n rows on, the same refusal
-refusal-cut : (n l w len : ℕ) → n ≤ l → n * w ≤ len → rowsRefusal l w len ≡ rowsRefusal (l - n) w (len - n * w)
-unfolding rowsRefusal
-refusal-cut zero l w len h g = let a : l - zero ≡ l = omega arith in let b : len - zero * w ≡ len = rw (zero-mul w) (omega arith) in rw (a, b)
-refusal-cut (suc n) zero w len h g = absurd (omega arith)
-refusal-cut (suc n) (suc l) w len h g =
-    let m : suc n * w ≡ n * w + w = suc-mul n w in
-    let a : len - suc n * w ≡ len - w - n * w = omega arith in
-    let b : suc l - suc n ≡ l - n = omega arith in
-    rw (le-ltb len w (omega arith), a, b) (refusal-cut n l w (len - w) (omega arith) (omega arith))
+ends-none : (s : List ℕ) → length s ≡ 0 → endRefusal 0 s ≡ Refusal.None
+unfolding endRefusal restRefusal
+ends-none [] h = refl
+ends-none (x ∷ s) h = absurd (omega arith)
 
 -- ---- the whole rows that are there
 
 -- the text of a trace: that of its whole rows, and the line of what it is refused with
 module _ (c : Course) (s : List ℕ) (n : ℕ) (whole : Whole c s n) where
   -- which refusal it is
-  refusal-here : courseRefusal c s ≡ rowsRefusal (c .left - n) (rowWidth c) (length s - n * rowWidth c)
-  unfolding courseRefusal
-  refusal-here = refusal-cut n (c .left) (rowWidth c) (length s) (whole .under) (whole .fits)
-
-  -- where rows are missing, the bytes after the whole ones are too few for one
-  too-few : 0 < c .left - n → length s - n * rowWidth c < rowWidth c
-  too-few h = ⊎-elim (λ (e : n ≡ c .left). absurd (omega arith)) (λ (l : length s < n * rowWidth c + rowWidth c). omega (arith, whole .fits)) (whole .all)
+  refusal-here : courseRefusal c s ≡ endRefusal (c .left - n) (drop (n * rowWidth c) s)
+  refusal-here = refusal-cut n c s (whole .under) (whole .fits) ∙ spent-refusal (onRows n c s) (drop (n * rowWidth c) s) (whole-spent c s n whole) ∙ rw (on-left n c s)
 
   pub text-parts : courseText c s ≡ nextRows n c s ++ reasonText (courseRefusal c s)
-  text-parts =
-      let es : length (drop (n * rowWidth c) s) ≡ length s - n * rowWidth c = length-drop (n * rowWidth c) s in
-      whole-rows c s n whole
-      ∙ ap (_++_ (nextRows n c s)) (over-reason (c .left - n) (rowWidth c) (drop (n * rowWidth c) s) (λ h. rw es (too-few h)) ∙ ap reasonText (rw es (sym refusal-here)))
+  unfolding endText
+  text-parts = whole-rows c s n whole ∙ rw refusal-here
 
   pub text-length : length (courseText c s) ≡ n * (c .lanes * 9) + length (reasonText (courseRefusal c s))
   text-length = ap length text-parts ∙ length-append (nextRows n c s) (reasonText (courseRefusal c s)) ∙ rw (next-length n c s)
 
   pub reason-cut : n < c .left → Refusal.Cut ≡ courseRefusal c s
-  reason-cut h = sym (refusal-here ∙ refusal-short _ _ _ (omega arith) (too-few (omega arith)))
+  reason-cut h = sym (refusal-here ∙ ends-cut (c .left - n) _ (omega arith))
 
   pub reason-rest : c .left ≤ n → n * rowWidth c < length s → Refusal.Rest ≡ courseRefusal c s
-  reason-rest h g = sym (refusal-here ∙ refusal-some _ _ _ (omega arith) (omega arith))
+  reason-rest h g = let e : c .left - n ≡ 0 = omega arith in sym (refusal-here ∙ rw e (ends-rest _ (rw length-drop (omega arith))))
 
   pub reason-none : c .left ≤ n → length s ≤ n * rowWidth c → Refusal.None ≡ courseRefusal c s
-  reason-none h g = sym (refusal-here ∙ refusal-none _ _ _ (omega arith) (omega arith))
+  reason-none h g = let e : c .left - n ≡ 0 = omega arith in sym (refusal-here ∙ rw e (ends-none _ (rw length-drop (omega arith))))
 
 -- ---- the loop that prints a trace
 
