@@ -1,6 +1,6 @@
 -- Laws of a replay's text: it can be cut after any number of whole rows; it is the whole rows and then one ending; every row's line is as
 -- long as every other. Assumes nothing.
-use mathlib.Core.Path.{_≡_, refl, sym, ap, _∙_}
+use mathlib.Core.Path.{_≡_, refl, sym, ap, subst, _∙_}
 use mathlib.Core.List.{List, [], _∷_, _++_, append-assoc, append-nil}
 use mathlib.Core.Bool.{Bool, true, false, cond, _&&_, true≢false}
 use mathlib.Core.Logic.{_⊎_, inl, inr, ⊎-elim}
@@ -28,7 +28,8 @@ use Rattle.bank.specs.Runs.{for, run}
 use Rattle.bank.specs.Rows.{nextLane, updateCalls, valuesOf}
 use Rattle.bank.specs.RowsLaws.{values-length, calls-length}
 use Rattle.trace.specs.declared.course.Course.{Course}
-use Rattle.trace.specs.Trace.{isF4, settingsBytes, settingsRefusal, openedBank, traceRefusal, traceStart, refusedStart, startOf, replayOf, rowWidth, rowCalls, rowLine, rowOn, nextRows, onRows, rowRefusal, restRefusal, rowsRefusal, courseRefusal, endRefusal, refusedLine, reasonText, endText, rowsText, courseText}
+use Rattle.trace.specs.declared.course.Begun.{Begun}
+use Rattle.trace.specs.Trace.{isF4, settingsBytes, settingsRefusal, openedBank, traceRefusal, unless, traceStart, refusedStart, startOf, replayOf, rowWidth, rowCalls, rowLine, rowOn, nextRows, onRows, rowRefusal, restRefusal, rowsRefusal, courseRefusal, endRefusal, refusedLine, reasonText, endText, rowsText, courseText}
 
 -- ---- n rows are n rows, whatever is left: the trace after them
 
@@ -284,24 +285,30 @@ pub record Started (s : List ℕ) : Type 0 where
   pub bank : startOf s .course .bank ≡ openedBank (firstHead s .rows) (drop (firstHead s .at) s)
   pub at : startOf s .at ≡ secondAt s + secondHead s .at
 
-pub started : (s : List ℕ) → passes (startOf s .refusal) ≡ true → Started s
-unfolding startOf traceStart refusedStart
-started s = first (passes (settingsRefusal (headerOf s) (length s))) refl (passes (traceRefusal (headerOf s .rows) (secondHead s))) refl
+-- a start that is accepted is what comes after the test, which holds
+unless-passed : (why : Refusal) (next : Begun) → passes (unless why next .refusal) ≡ true → (passes why ≡ true) × (unless why next ≡ next)
+unfolding unless refusedStart
+unless-passed why next = go (passes why) refl
   where
-    first : (t : Bool) → passes (settingsRefusal (headerOf s) (length s)) ≡ t → (u : Bool) → passes (traceRefusal (headerOf s .rows) (secondHead s)) ≡ u
-        → passes (startOf s .refusal) ≡ true → Started s
-    first false e u f h = absurd (true≢false (sym (simp e at h)))
-    first true e false f h = absurd (true≢false (sym (simp (e, f) at h)))
-    first true e true f h =
-        record {
-          settings = settings-parts (headerOf s) (length s) e;
-          trace = trace-parts (headerOf s .rows) (secondHead s) f;
-          kind = simp (e, f);
-          lanes = simp (e, f);
-          left = simp (e, f);
-          bank = simp (e, f);
-          at = simp (e, f);
-        }
+    go : (t : Bool) → passes why ≡ t → passes (cond t next (refusedStart why) .refusal) ≡ true → (t ≡ true) × (cond t next (refusedStart why) ≡ next)
+    go false e h = absurd (true≢false (sym h ∙ e))
+    go true e h = (refl, refl)
+
+pub started : (s : List ℕ) → passes (startOf s .refusal) ≡ true → Started s
+unfolding startOf traceStart
+started s h =
+    let first = unless-passed _ _ h in
+    let second = unless-passed (traceRefusal (headerOf s .rows) (secondHead s)) _ (subst (λ (b : Begun). passes (b .refusal) ≡ true) (first .1) h) in
+    let is = first .1 ∙ second .1 in
+    record {
+      settings = settings-parts (headerOf s) (length s) (first .0);
+      trace = trace-parts (headerOf s .rows) (secondHead s) (second .0);
+      kind = rw is;
+      lanes = rw is;
+      left = rw is;
+      bank = rw is;
+      at = rw is;
+    }
 
 -- the rows begin within the file
 pub start-within : (s : List ℕ) → Started s → startOf s .at ≤ length s

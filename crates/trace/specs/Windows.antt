@@ -23,7 +23,7 @@ use Rattle.trace.specs.Turns.{each-take}
 use Rattle.npy.specs.Header.{headerOf, accepted}
 use Rattle.bank.specs.declared.Bank.{Bank}
 use Rattle.trace.specs.declared.course.Course.{Course}
-use Rattle.trace.specs.Trace.{isF4, settingsBytes, settingsRefusal, openOf, openedBank, refusedStart, traceStart, startOf, replayOf, refusedLine, endText, rowWidth, rowCalls, rowLine, rowOn, nextRows, onRows, courseText}
+use Rattle.trace.specs.Trace.{isF4, settingsBytes, settingsRefusal, openOf, openedBank, refusedStart, unless, traceStart, startOf, replayOf, refusedLine, endText, rowWidth, rowCalls, rowLine, rowOn, nextRows, onRows, courseText}
 use Rattle.trace.specs.TraceLaws.{rows-on, width-on, rows-cut, end-rest, Spent, spent-text, whole-spent, wholeRows, whole-is, on-width, settings-parts, secondAt, started, start-within, some-bytes}
 
 -- ---- rows are read from their own bytes alone
@@ -163,7 +163,7 @@ settings-take n s h l = go (leb 1 (h .rows)) (leb (h .rows) 8) refl (eqb (h .col
     go false b e d = refl
 
 pub start-take : (n : ℕ) (s : List ℕ) → 2184 ≤ n → startOf (take n s) ≡ startOf s
-unfolding startOf
+unfolding startOf unless
 start-take n s h =
     rw (window-decides n s (omega arith), settings-take n s (headerOf s) (omega (arith, at-small s)))
     (go (passes (settingsRefusal (headerOf s) (length s))) refl)
