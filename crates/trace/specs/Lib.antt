@@ -3,7 +3,7 @@ pub mod Trace
 pub mod TraceLaws
 pub mod Windows
 pub mod Columns
-pub mod CodeLaws
+pub mod StartLaws
 pub mod Slices
 pub mod RowsLaws
 pub mod EndLaws

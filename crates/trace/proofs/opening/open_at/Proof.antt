@@ -1,4 +1,4 @@
-use Rattle.trace.specs.CodeLaws.{opens}
+use Rattle.trace.specs.StartLaws.{opens}
 use borrow.Author.Needs.{needs}
 use Rattle.trace.proofs.opening.open_at.Statement.{statement}
 use Rattle.trace.proofs.opening.open_at.Tie as tie

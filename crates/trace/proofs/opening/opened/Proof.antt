@@ -1,7 +1,7 @@
 use Rattle.bank.specs.Runs.{after}
 use Rattle.trace.specs.Turns.{inTurn, each}
 use Rattle.trace.specs.Trace.{openOf, openedBank}
-use Rattle.trace.specs.CodeLaws.{open-more, open-done, open-start}
+use Rattle.trace.specs.StartLaws.{open-more, open-done, open-start}
 use mathlib.Core.Path.{_≡_, refl, _∙_}
 use Prim.Native.Nat.{_-_, _*_}
 use native.Mathlib.Omega.{arith}

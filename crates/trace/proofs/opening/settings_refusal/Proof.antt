@@ -1,5 +1,5 @@
 use borrow.Author.Tests.{not-true, not-false}
-use Rattle.trace.specs.CodeLaws.{settings-header, settings-kind, settings-shape, settings-cut, settings-none, rows-shape}
+use Rattle.trace.specs.StartLaws.{settings-header, settings-kind, settings-shape, settings-cut, settings-none, rows-shape}
 use native.Mathlib.Omega.{arith}
 use borrow.Author.Needs.{needs}
 use Rattle.trace.proofs.opening.settings_refusal.Statement.{statement}

@@ -1,6 +1,6 @@
 use denote.Ref.{now}
 use Rattle.npy.specs.HeaderLaws.{at-within}
-use Rattle.trace.specs.CodeLaws.{start-refused, start-given, settings-from}
+use Rattle.trace.specs.StartLaws.{start-refused, start-given, settings-from}
 use native.Mathlib.Omega.{arith}
 use borrow.Author.Needs.{needs}
 use borrow.Author.Tests.{not-true, not-false}

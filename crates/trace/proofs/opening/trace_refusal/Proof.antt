@@ -1,5 +1,5 @@
 use borrow.Author.Tests.{not-true, not-false}
-use Rattle.trace.specs.CodeLaws.{trace-header, trace-kind, trace-shape, trace-none}
+use Rattle.trace.specs.StartLaws.{trace-header, trace-kind, trace-shape, trace-none}
 use borrow.Author.Needs.{needs}
 use Rattle.trace.proofs.opening.trace_refusal.Statement.{statement}
 use Rattle.trace.proofs.opening.trace_refusal.Tie as tie

@@ -1,4 +1,4 @@
-use Rattle.trace.specs.CodeLaws.{trace-refused, trace-started, place-within}
+use Rattle.trace.specs.StartLaws.{trace-refused, trace-started, place-within}
 use native.Mathlib.Omega.{arith}
 use borrow.Author.Needs.{needs}
 use borrow.Author.Tests.{not-true, not-false}

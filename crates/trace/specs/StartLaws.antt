@@ -1,4 +1,4 @@
--- What the code's answers are, case by case. Assumes nothing.
+-- The start of a file: what the code answers at each of its tests is what the definitions say. Assumes nothing.
 use mathlib.Core.Path.{_≡_, refl, sym, _∙_, subst}
 use mathlib.Core.List.{List}
 use mathlib.Core.Bool.{Bool, true, false, cond, _&&_, true≢false}
