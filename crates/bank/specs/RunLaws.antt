@@ -12,7 +12,7 @@ use Rattle.bank.specs.declared.lane.Op.{Op}
 use Rattle.bank.specs.declared.lane.Answer.{Answer}
 use Rattle.bank.specs.declared.lane.Stepped.{Stepped}
 use Rattle.bank.specs.declared.Bank.{Bank}
-use Rattle.bank.specs.Lane.{stepped, laneStep}
+use Rattle.bank.specs.Lane.{laneStep}
 use Rattle.bank.specs.LaneLaws.{BoundedLane, closed-bounded, step-bounded}
 use Rattle.bank.specs.Single.{Single, none, singleStep, singleRun, singleAfter}
 use Rattle.bank.specs.SingleLaws.{laneOf, Good, step-as}

@@ -1,4 +1,5 @@
--- The 8 digits of a word at once, as the bytes of one number: by halves, which stand apart, and a sum that turns every digit into its letter.
+-- The 8 digits of a word at once, as the bytes of one number: by halves, which stand apart, and a sum that turns every digit into its
+-- letter. Assumes nothing.
 use mathlib.Core.Path.{_≡_, refl, _∙_}
 use mathlib.Core.List.{List, [], _∷_}
 use mathlib.Core.Bool.{Bool, true, false, cond}

@@ -1,4 +1,5 @@
--- Numbers side by side as fields of one number, the first one lowest: what `&`, a sum and a product do to all of them at once.
+-- Numbers side by side as fields of one number, the first one lowest: what `&`, a sum and a product do to all of them at once. Assumes
+-- nothing.
 use mathlib.Core.Path.{_≡_, refl, sym, ap, ap₂, _∙_}
 use mathlib.Core.List.{List, [], _∷_}
 use Prim.Native.Nat.{ℕ, zero, suc, _+_, _-_, _*_, _/_, _%_, _^_, _≤_, _<_}

@@ -1,24 +1,25 @@
 -- Laws of the header: one turn of its number, what the code answers in each case, the place of the data, and what a refused one says.
+-- Assumes nothing.
 use mathlib.Core.Path.{_≡_, refl, sym, _∙_, ap}
 use mathlib.Core.List.{List, [], _∷_}
+use mathlib.Core.Bool.{Bool, true, false, cond, _&&_}
+use mathlib.Core.Logic.{⊎-elim}
 use Prim.Native.Nat.{ℕ, zero, suc, _+_, _*_, _-_, _%_, _≤_, _<_, _^_}
-use native.Mathlib.Omega.{arith}
 use native.Mathlib.Nat.{pow-suc, lt-of-lt-of-le, pow-le-pow-right, add-sub-cancel-left, sub-zero, zero-sub, suc-sub-suc, min-le-left, zero-add}
+use native.Mathlib.Omega.{arith}
 use lib.ListN.{length, getD, take, drop, drop-of-length-le, length-drop, length-take, List·getD-eq-default}
 use lib.Seq.{drop-cons, take-nil, take-all}
 use lib.Dec.{leb, eqb, lit<}
-use mathlib.Core.Logic.{⊎-elim}
-use Rattle.refusal.specs.Cases.{lt-or-le}
-use mathlib.Core.Bool.{Bool, true, false, cond, _&&_}
 use borrow.Author.Tests.{le-leb, lt-leb, leb-true, eq-eqb, ne-eqb, eqb-true}
 use Rattle.refusal.specs.declared.Refusal.{Refusal}
-use Rattle.refusal.specs.Refusal.{passes}
 use Rattle.refusal.specs.declared.Refusal.the-variants as Refusal
+use Rattle.refusal.specs.Refusal.{passes}
+use Rattle.refusal.specs.Cases.{lt-or-le}
+use Rattle.float.specs.FloatLaws.{and-left, and-right}
 use Rattle.npy.specs.declared.reader.Kind.{Kind}
 use Rattle.npy.specs.declared.reader.Head.{Head}
 use Rattle.npy.specs.declared.reader.Places.{Places}
 use Rattle.npy.specs.Text.{begins, decimal, kindOf, kindEnd, rowsAt, rowsEnd, colsAt, colsEnd, placesOf, spelled}
-use Rattle.float.specs.FloatLaws.{and-left, and-right}
 use Rattle.npy.specs.Header.{lowFirst, magic, refusedHead, acceptedHead, accepted, textHead, textFits, textLength, headerW, widthOf, headerOf, dataOf, placeIn}
 
 -- one byte more of a number, from the high end: what is past the end counts as 0

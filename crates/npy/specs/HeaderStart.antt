@@ -1,4 +1,5 @@
--- What an accepted header is, part by part, and that no byte after it is looked at: the start of a file decides its header.
+-- What an accepted header is, part by part, and that no byte after it is looked at: the start of a file decides its header. Assumes
+-- nothing.
 use mathlib.Core.Path.{_≡_, refl, sym, _∙_, ap}
 use mathlib.Core.List.{List, [], _∷_, _++_}
 use mathlib.Core.Bool.{Bool, true, false, cond, not, _&&_}
@@ -13,10 +14,10 @@ use borrow.Author.Tests.{le-leb, lt-leb, leb-true, eqb-false}
 use Rattle.refusal.specs.declared.Refusal.{Refusal}
 use Rattle.refusal.specs.declared.Refusal.the-variants as Refusal
 use Rattle.refusal.specs.Refusal.{passes}
-use Rattle.npy.specs.declared.reader.Head.{Head}
-use Rattle.npy.specs.Text.{begins, within, isDigit, lead, endOf, decimal, rowsAt, rowsEnd, colsAt, colsEnd, placesOf, spelled}
 use Rattle.refusal.specs.Cases.{lt-or-le}
 use Rattle.float.specs.FloatLaws.{and-left, and-right}
+use Rattle.npy.specs.declared.reader.Head.{Head}
+use Rattle.npy.specs.Text.{begins, within, isDigit, lead, endOf, decimal, rowsAt, rowsEnd, colsAt, colsEnd, placesOf, spelled}
 use Rattle.npy.specs.TextLaws.{spelled-parts, number-size}
 use Rattle.npy.specs.Header.{magic, refusedHead, acceptedHead, accepted, textHead, textFits, textLength, headerW, widthOf, headerOf}
 use Rattle.npy.specs.HeaderLaws.{drop-take, fits-parts, width-small, at-within}

@@ -1,5 +1,5 @@
--- Acceptance is exact: a header is accepted where it is one that document 01 spells, and nowhere else. What it spells is a print of
--- its parts, X, R and C, for either width of the length.
+-- Acceptance is exact: a header is accepted where it is one that document 01 spells, and nowhere else. What it spells is a print of its
+-- parts, X, R and C, for either width of the length. Assumes nothing.
 use mathlib.Core.Path.{_≡_, refl, sym, _∙_, ap, subst}
 use mathlib.Core.List.{List, [], _∷_, _++_}
 use mathlib.Core.Bool.{Bool, true, false, cond, not, _&&_}
@@ -12,8 +12,8 @@ use lib.ListN.{length, getD, take, drop, replicate, length-drop, length-append, 
 use lib.Seq.{drop-cons, drop-drop, drop-append-seam, take-append-seam, getD-drop, getD-take, length-take-le, take-at}
 use lib.Dec.{leb, eqb}
 use borrow.Author.Tests.{le-leb, leb-true, eq-eqb, ne-eqb, eqb-true}
-use Rattle.npy.specs.Text.{begins, within, isKind, isDigit, isSpace, lead, endOf, decimal, kindFits, isNumber, f4, i2, kindOf, opening, middle, comma, closing, ending, kindEnd, rowsAt, rowsEnd, colsAt, colsEnd, feedAt, placesOf, frontSpelled, shapeSpelled, endSpelled, spelled}
 use Rattle.float.specs.FloatLaws.{and-left, and-right}
+use Rattle.npy.specs.Text.{begins, within, isKind, isDigit, isSpace, lead, endOf, decimal, kindFits, isNumber, f4, i2, kindOf, opening, middle, comma, closing, ending, kindEnd, rowsAt, rowsEnd, colsAt, colsEnd, feedAt, placesOf, frontSpelled, shapeSpelled, endSpelled, spelled}
 use Rattle.npy.specs.TextLaws.{lead-within, end-within, spelled-parts, number-size}
 use Rattle.npy.specs.Header.{lowFirst, magic, acceptedHead, accepted, textHead, textFits, textLength, headerW, widthOf, headerOf}
 use Rattle.npy.specs.HeaderLaws.{fits-parts}

@@ -1,4 +1,4 @@
--- One turn of each definition over a list of bytes, at a place of the list.
+-- One turn of each definition over a list of bytes, at a place of the list. Assumes nothing.
 use mathlib.Core.Path.{_≡_, refl, sym, _∙_}
 use mathlib.Core.Logic.{⊎-elim}
 use borrow.Author.Tests.{le-leb, lt-leb, leb-true, eqb-true}

@@ -1,4 +1,4 @@
--- Laws of words and lines: a word stored, a line word by word, its length and its columns.
+-- Laws of words and lines: a word stored, a line word by word, its length and its columns. Assumes nothing.
 use mathlib.Core.Path.{_≡_, refl, sym, ap, _∙_}
 use mathlib.Core.List.{List, [], _∷_, _++_, append-nil}
 use mathlib.Core.Bool.{Bool, true, false, cond, _&&_}

@@ -4,12 +4,12 @@ use mathlib.Core.Path.{_≡_, refl, sym, ap, subst, _∙_}
 use mathlib.Core.List.{List, [], _∷_, _++_, append-assoc}
 use mathlib.Core.Bool.{true}
 use Prim.Native.Nat.{ℕ, zero, suc, _+_, _-_, _*_, _≤_, _<_}
-use native.Mathlib.Nat.{suc-mul, zero-mul, add-zero, zero-add, add-comm, add-assoc, mul-assoc, add-mul}
+use native.Mathlib.Nat.{suc-mul, zero-mul, zero-add, add-assoc, mul-assoc, add-mul}
 use native.Mathlib.Omega.{arith}
 use lib.Ieee.{Float, nan}
 use lib.ListN.{length, getD, take, drop}
 use lib.Seq.{drop-drop, drop-append-add}
-use borrow.Author.Tests.{lt-ltb, eq-eqb, ne-eqb}
+use borrow.Author.Tests.{lt-ltb}
 use Rattle.refusal.specs.declared.Refusal.the-variants as Refusal
 use Rattle.refusal.specs.Refusal.{passes}
 use Rattle.npy.specs.declared.reader.Kind.{Kind}
@@ -19,8 +19,7 @@ use Rattle.npy.specs.Cell.{cellOf, cellsOf}
 use Rattle.npy.specs.Word.{wordOf}
 use Rattle.npy.specs.WordLaws.{line-column}
 use Rattle.bank.specs.declared.lane.Op.{Op}
-use Rattle.bank.specs.declared.lane.Op.the-variants.{Open, Update}
-use Rattle.bank.specs.declared.lane.SlewLimit.the-variants.{Off}
+use Rattle.bank.specs.declared.lane.Op.the-variants.{Update}
 use Rattle.bank.specs.declared.lane.Answer.{Answer}
 use Rattle.bank.specs.declared.Bank.{Bank}
 use Rattle.bank.specs.Lane.{plain}

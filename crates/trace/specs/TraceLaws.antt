@@ -14,8 +14,8 @@ use borrow.Author.Tests.{lt-ltb, le-ltb, ltb-true, ltb-false, leb-true, eqb-true
 use Rattle.refusal.specs.declared.Refusal.{Refusal}
 use Rattle.refusal.specs.declared.Refusal.the-variants as Refusal
 use Rattle.refusal.specs.Refusal.{passes}
-use Rattle.npy.specs.declared.reader.Head.{Head}
 use Rattle.float.specs.FloatLaws.{and-left, and-right}
+use Rattle.npy.specs.declared.reader.Head.{Head}
 use Rattle.npy.specs.declared.reader.Kind.{Kind}
 use Rattle.npy.specs.Header.{isCell, cellWidth, accepted, headerOf}
 use Rattle.npy.specs.HeaderLaws.{at-within}

@@ -2,33 +2,33 @@
 use mathlib.Core.Path.{_≡_, refl, sym, ap, _∙_, subst}
 use mathlib.Core.List.{List, [], _∷_, _++_, append-nil}
 use mathlib.Core.Bool.{Bool, true, false, cond, _&&_, true≢false}
-use Prim.Native.Nat.{ℕ, zero, suc, _+_, _-_, _*_, _/_, _≤_, _<_}
 use mathlib.Core.Logic.{⊎-elim, inl, inr}
-use Rattle.refusal.specs.Cases.{lt-or-le}
-use Rattle.npy.specs.HeaderStart.{shape-small}
-use native.Mathlib.Nat.{suc-mul, zero-mul, mul-assoc, mul-comm, div-eq-sub-div, mul-le-mul}
+use Prim.Native.Nat.{ℕ, zero, suc, _+_, _-_, _*_, _/_, _≤_, _<_}
+use native.Mathlib.Nat.{mul-assoc, mul-comm, div-eq-sub-div, mul-le-mul}
 use native.Mathlib.Omega.{arith}
-use borrow.Author.Tests.{ltb-true, ltb-false, leb-true, leb-false, lt-ltb, le-ltb, le-leb, lt-leb, eq-eqb, ne-eqb}
 use lib.Dec.{ltb, leb}
 use lib.ListN.{length, set, take, drop, length-append, length-drop, take-append-drop, drop-of-length-le}
 use lib.Seq.{sets, length-sets, drop-drop, drop-set-add, take-set-le}
+use borrow.Author.Tests.{ltb-true, ltb-false, leb-true, leb-false, lt-ltb, le-leb, lt-leb, eq-eqb, ne-eqb}
 use Rattle.refusal.specs.declared.Refusal.{Refusal}
 use Rattle.refusal.specs.declared.Refusal.the-variants as Refusal
 use Rattle.refusal.specs.Refusal.{numberOf, passes}
+use Rattle.refusal.specs.Cases.{lt-or-le}
+use Rattle.float.specs.FloatLaws.{and-left, and-right}
 use Rattle.npy.specs.declared.reader.Kind.{Kind}
 use Rattle.npy.specs.declared.reader.Head.{Head}
-use Rattle.float.specs.FloatLaws.{and-left, and-right}
 use Rattle.npy.specs.Header.{isCell, cellWidth, accepted, refusedHead, headerOf}
 use Rattle.npy.specs.HeaderLaws.{to-end, refused-is}
+use Rattle.npy.specs.HeaderStart.{shape-small}
 use Rattle.npy.specs.Cell.{least}
 use Rattle.trace.specs.declared.course.Course.{Course}
 use Rattle.trace.specs.declared.course.Begun.{Begun}
 use Rattle.trace.specs.declared.course.Went.{Went}
 use Rattle.trace.specs.Trace.{startOf, rowWidth, rowLine, rowOn, nextRows, onRows, restRefusal, courseRefusal, endRefusal, refusedLine, reasonText, endText, courseText, replayOf}
 use Rattle.trace.specs.Slices.{laned, rowsFor, rowsIn, wentOf, wrote, wroteCount, replayRefusal, replayedOf}
-use Rattle.trace.specs.EndLaws.{one-digit, two-digits}
 use Rattle.trace.specs.TraceLaws.{Whole, whole-spent, whole-rows, refusal-cut, spent-refusal, wholeRows, whole-is, rowsOf, Accepted, accepted-all, accepted-whole, firstHead, secondAt, secondHead, started, start-within, row-length, rows-length, spent-text, row-cut, rows-cut, on-left, on-kind, on-lanes, on-width}
 use Rattle.trace.specs.RowsLaws.{room, sets-append, laned-parts, width-range}
+use Rattle.trace.specs.EndLaws.{one-digit, two-digits}
 
 -- a header names fewer than 10⁹ rows; refused, none
 pub few-rows : (s : List ℕ) → headerOf s .rows < 1000000000
