@@ -20,6 +20,7 @@ use Rattle.bank.specs.Bank.{freshBank, Eight, laneAt, bankStep}
 use Rattle.bank.specs.BankLaws.{fresh-eight, fresh-closed, step-eight, named, others}
 use Rattle.bank.specs.Runs.{For, run, after, ofLane, laneRun, laneAfter}
 
+-- a lane of a bank beside a single controller: the same answers to the lane's calls, and the same controller left
 pub record Apart (L : ℕ) (b : Bank) (c : Single) (calls : List (For Op)) : Type 0 where
   pub answers : ofLane L (run b calls) ≡ singleRun c (ofLane L calls)
   pub left : laneAt (after b calls) L ≡ laneOf (singleAfter c (ofLane L calls))

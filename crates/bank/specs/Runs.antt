@@ -3,10 +3,10 @@ use Prim.Native.Nat.{ℕ}
 use mathlib.Core.Bool.{Bool, true, false}
 use mathlib.Core.List.{List, [], _∷_}
 use lib.Dec.{eqb}
+use Rattle.bank.specs.declared.lane.Lane.{Lane}
 use Rattle.bank.specs.declared.lane.Op.{Op}
 use Rattle.bank.specs.declared.lane.Answer.{Answer}
 use Rattle.bank.specs.declared.Bank.{Bank}
-use Rattle.bank.specs.declared.lane.Lane.{Lane}
 use Rattle.bank.specs.Lane.{laneStep}
 use Rattle.bank.specs.Bank.{bankStep}
 

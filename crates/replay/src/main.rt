@@ -8,9 +8,6 @@ use libc::STDOUT_FILENO;
 use trace::Begun;
 use trace::Course;
 
-// The start of a file, both headers and the settings, is never longer than this (crates/trace/specs/Windows).
-const ENOUGH: usize = 2184;
-
 // What one read gave.
 struct More {
     n: usize,
@@ -44,8 +41,9 @@ fn read_more(input: &mut [u8], to: usize) -> More
 
 // Reads until the start of the file is there or the input ends.
 fn gather(input: &mut [u8]) -> More {
+    let enough = trace::enough();
     let mut to = 0;
-    while to < ENOUGH {
+    while to < enough {
         let m = read_more(input, to);
         if !m.ok {
             return More { n: 0, ok: false };

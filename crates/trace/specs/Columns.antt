@@ -12,6 +12,7 @@ use lib.Seq.{drop-drop, drop-append-add}
 use borrow.Author.Tests.{lt-ltb}
 use Rattle.refusal.specs.declared.Refusal.the-variants as Refusal
 use Rattle.refusal.specs.Refusal.{passes}
+use Rattle.rate_pid.specs.RatePid.{newRate}
 use Rattle.npy.specs.declared.reader.Kind.{Kind}
 use Rattle.npy.specs.declared.reader.Kind.the-variants.{F4}
 use Rattle.npy.specs.Header.{cellWidth, headerOf}
@@ -25,7 +26,6 @@ use Rattle.bank.specs.declared.Bank.{Bank}
 use Rattle.bank.specs.Lane.{plain}
 use Rattle.bank.specs.Bank.{freshBank, Eight, laneAt, bankStep}
 use Rattle.bank.specs.BankLaws.{fresh-eight, fresh-closed}
-use Rattle.rate_pid.specs.RatePid.{newRate}
 use Rattle.bank.specs.Single.{Single, none, one, newSingle, singleStep, singleRun, singleAfter}
 use Rattle.bank.specs.SingleLaws.{laneOf, Good, step-as}
 use Rattle.bank.specs.Runs.{For, for, run, after, ofLane}

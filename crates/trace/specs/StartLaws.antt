@@ -4,11 +4,11 @@ use mathlib.Core.List.{List}
 use mathlib.Core.Bool.{Bool, true, false, cond, _&&_, true≢false}
 use Prim.Native.Nat.{ℕ, suc, _+_, _-_, _*_, _≤_, _<_}
 use native.Mathlib.Omega.{arith}
-use borrow.Author.Tests.{leb-true, le-leb, lt-leb, eq-eqb, ne-eqb}
 use lib.Dec.{leb, eqb}
 use lib.Ieee.{Float}
 use lib.ListN.{length, take, drop, length-drop}
 use lib.Seq.{drop-drop}
+use borrow.Author.Tests.{leb-true, le-leb, lt-leb, eq-eqb, ne-eqb}
 use Rattle.refusal.specs.declared.Refusal.{Refusal}
 use Rattle.refusal.specs.declared.Refusal.the-variants as Refusal
 use Rattle.refusal.specs.Refusal.{passes}
@@ -18,7 +18,6 @@ use Rattle.npy.specs.declared.reader.Head.{Head}
 use Rattle.npy.specs.Header.{isCell, accepted, headerOf}
 use Rattle.npy.specs.HeaderLaws.{to-end, at-within}
 use Rattle.npy.specs.Cell.{cellOf}
-use Rattle.trace.specs.Turns.{inTurn, each}
 use Rattle.bank.specs.declared.lane.Op.{Op}
 use Rattle.bank.specs.declared.lane.Op.the-variants.{Open}
 use Rattle.bank.specs.declared.lane.SlewLimit.the-variants.{Off}
@@ -26,6 +25,7 @@ use Rattle.bank.specs.declared.Bank.{Bank}
 use Rattle.bank.specs.Bank.{freshBank, bankStep}
 use Rattle.bank.specs.Runs.{after}
 use Rattle.trace.specs.declared.course.Begun.{Begun}
+use Rattle.trace.specs.Turns.{inTurn, each}
 use Rattle.trace.specs.Trace.{isF4, settingsRefusal, openOf, openedBank, traceRefusal, refusedStart, unless, traceStart, startOf}
 use Rattle.trace.specs.TraceLaws.{Settings, settings-parts}
 

@@ -16,13 +16,13 @@ use Rattle.refusal.specs.Refusal.{passes}
 use Rattle.npy.specs.declared.reader.Kind.{Kind}
 use Rattle.npy.specs.declared.reader.Kind.the-variants.{F4}
 use Rattle.npy.specs.declared.reader.Head.{Head}
+use Rattle.npy.specs.Header.{headerOf, accepted}
 use Rattle.npy.specs.HeaderLaws.{drop-take, at-within}
 use Rattle.npy.specs.HeaderStart.{leb-take, window-decides}
 use Rattle.npy.specs.CellLaws.{cell-start, cells-take}
-use Rattle.trace.specs.Turns.{each-take}
-use Rattle.npy.specs.Header.{headerOf, accepted}
 use Rattle.bank.specs.declared.Bank.{Bank}
 use Rattle.trace.specs.declared.course.Course.{Course}
+use Rattle.trace.specs.Turns.{each-take}
 use Rattle.trace.specs.Trace.{isF4, settingsBytes, settingsRefusal, openOf, openedBank, refusedStart, unless, traceStart, startOf, replayOf, refusedLine, endText, rowWidth, rowCalls, rowLine, rowOn, nextRows, onRows, courseText}
 use Rattle.trace.specs.TraceLaws.{rows-on, width-on, rows-cut, end-rest, Spent, spent-text, whole-spent, wholeRows, whole-is, on-width, settings-parts, secondAt, started, start-within, some-bytes}
 
@@ -121,7 +121,10 @@ unfolding atOnce joined allOf
 at-once-joined [] c kept = refl
 at-once-joined (bytes ∷ more) c kept = ap (λ (l : List ℕ). bytes ++ l) (at-once-joined more _ _)
 
--- ---- the start: 2,184 bytes decide it, two headers (of at most 1,012 bytes each) and the settings of eight lanes
+-- ---- the start: two headers, of at most 1,012 bytes each, and the settings of eight lanes decide it
+
+abbrev pub startBytes : ℕ
+startBytes = 2184
 
 -- the data of an array begin at byte 1,012 at the latest
 pub at-small : (s : List ℕ) → headerOf s .at ≤ 1012
@@ -162,7 +165,7 @@ settings-take n s h l = go (leb 1 (h .rows)) (leb (h .rows) 8) refl (eqb (h .col
     go true false e d = refl
     go false b e d = refl
 
-pub start-take : (n : ℕ) (s : List ℕ) → 2184 ≤ n → startOf (take n s) ≡ startOf s
+pub start-take : (n : ℕ) (s : List ℕ) → startBytes ≤ n → startOf (take n s) ≡ startOf s
 unfolding startOf unless
 start-take n s h =
     rw (window-decides n s (omega arith), settings-take n s (headerOf s) (omega (arith, at-small s)))
@@ -192,14 +195,14 @@ streamed first ws =
     let b = startOf first in
     cond (passes (b .refusal)) (windowed (b .course) (drop (b .at) first) ws) (refusedLine (b .refusal))
 
--- it has read enough: 2,184 bytes or more, or all that there is
+-- it has read enough: the bytes of a start or more, or all that there is
 abbrev pub Enough : List ℕ → List ℕ → Type 0
-Enough first rest = (2184 ≤ length first) ⊎ (rest ≡ [])
+Enough first rest = (startBytes ≤ length first) ⊎ (rest ≡ [])
 
 pub start-early : (first rest : List ℕ) → Enough first rest → startOf first ≡ startOf (first ++ rest)
 start-early first rest h =
     ⊎-elim
-    (λ (l : 2184 ≤ length first). rw (take-append-seam first rest) at (start-take (length first) (first ++ rest) l))
+    (λ (l : startBytes ≤ length first). rw (take-append-seam first rest) at (start-take (length first) (first ++ rest) l))
     (λ (e : rest ≡ []). rw (e, append-nil first))
     h
 

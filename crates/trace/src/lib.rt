@@ -12,5 +12,6 @@ pub use course::Went;
 pub use ending::end;
 pub use ending::refused_line;
 pub use going::rows;
+pub use opening::enough;
 pub use opening::start;
 pub use whole::replay;

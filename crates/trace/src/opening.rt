@@ -5,6 +5,7 @@ ghost use mathlib.Core.Bool.{_&&_};
 ghost use lib.Dec.{leb, eqb};
 ghost use lib.ListN.{length, drop};
 ghost use Rattle.npy.specs.Header.{isCell};
+ghost use Rattle.trace.specs.Windows.{startBytes};
 ghost use Rattle.trace.specs.Trace.{isF4, settingsRefusal, openOf, openedBank, traceRefusal, refusedStart, traceStart, startOf};
 use crate::course::Begun;
 use crate::course::Course;
@@ -14,6 +15,13 @@ use bank::SlewLimit;
 use npy::Head;
 use npy::Kind;
 use refusal::Refusal;
+
+// So many bytes of a file, or all of it where it has fewer, are enough for `start`: it answers as for the whole file.
+pub fn enough() -> usize
+    ensures { λ r. ⌜ r ≡ startBytes ⌝ }
+{
+    2184
+}
 
 fn is_f4(kind: Kind) -> bool
     ensures { λ r. ⌜ r ≡ isF4 kind ⌝ }

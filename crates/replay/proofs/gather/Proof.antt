@@ -7,10 +7,13 @@ use Rattle.replay.proofs.gather.Statement.{statement}
 use Rattle.replay.proofs.gather.Tie as tie
 
 abbrev Inv-loop : tie.InvT-loop
-Inv-loop input₀ to₀ input to = (length input ≡ length input₀) × (to ≤ length input₀)
+Inv-loop input₀ enough₀ to₀ input to = (length input ≡ length input₀) × (to ≤ length input₀)
 
 abbrev μ-loop : tie.MeasureT-loop
-μ-loop input₀ to₀ input to = 2184 - to
+μ-loop input₀ enough₀ to₀ input to = enough₀ - to
+
+enough-requires : tie.Need-enough-requires Inv-loop μ-loop
+enough-requires c κs = search needs
 
 loop-holds : tie.Need-loop-holds Inv-loop μ-loop
 loop-holds c = omega arith
@@ -51,6 +54,7 @@ gather-spec =
     (tie.spec
     Inv-loop
     μ-loop
+    enough-requires
     loop-holds
     read-more-requires
     same-length
