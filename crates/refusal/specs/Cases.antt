@@ -1,4 +1,4 @@
--- The cases that proofs go by: of a test, by which a definition picks between two answers, and of two numbers.
+-- The cases that proofs go by: of a test, by which a definition picks between two answers, and of two numbers. Assumes nothing.
 use mathlib.Core.Path.{_≡_, refl}
 use mathlib.Core.Bool.{Bool, true, false, cond, not, _&&_}
 use mathlib.Core.Logic.{_⊎_, inl, inr}
