@@ -113,24 +113,37 @@ refusal-cut (suc n) c s hl hs =
 -- ---- the whole rows, and then one ending
 
 -- 15 where rows are missing
-pub end-cut : (n : ℕ) (s : List ℕ) → 0 < n → endText n s ≡ refusedLine Refusal.Cut
-unfolding endText endRefusal reasonText passes
-end-cut zero s h = absurd (omega arith)
-end-cut (suc n) s h = refl
+pub ends-cut : (n : ℕ) (s : List ℕ) → 0 < n → endRefusal n s ≡ Refusal.Cut
+unfolding endRefusal
+ends-cut zero s h = absurd (omega arith)
+ends-cut (suc n) s h = refl
 
 -- 16 where there are bytes after the last row
-pub end-rest : (n : ℕ) (s : List ℕ) → n ≤ 0 → 0 < length s → endText n s ≡ refusedLine Refusal.Rest
-unfolding endText endRefusal restRefusal reasonText passes
-end-rest zero [] h g = absurd (omega arith)
-end-rest zero (x ∷ xs) h g = refl
-end-rest (suc n) s h g = absurd (omega arith)
+pub ends-rest : (n : ℕ) (s : List ℕ) → n ≤ 0 → 0 < length s → endRefusal n s ≡ Refusal.Rest
+unfolding endRefusal restRefusal
+ends-rest zero [] h g = absurd (omega arith)
+ends-rest zero (x ∷ xs) h g = refl
+ends-rest (suc n) s h g = absurd (omega arith)
 
 -- else nothing
+pub ends-none : (n : ℕ) (s : List ℕ) → n ≤ 0 → length s ≤ 0 → endRefusal n s ≡ Refusal.None
+unfolding endRefusal restRefusal
+ends-none zero [] h g = refl
+ends-none zero (x ∷ xs) h g = absurd (omega arith)
+ends-none (suc n) s h g = absurd (omega arith)
+
+-- and their lines
+pub end-cut : (n : ℕ) (s : List ℕ) → 0 < n → endText n s ≡ refusedLine Refusal.Cut
+unfolding endText reasonText passes
+end-cut n s h = rw (ends-cut n s h)
+
+pub end-rest : (n : ℕ) (s : List ℕ) → n ≤ 0 → 0 < length s → endText n s ≡ refusedLine Refusal.Rest
+unfolding endText reasonText passes
+end-rest n s h g = rw (ends-rest n s h g)
+
 pub end-none : (n : ℕ) (s : List ℕ) → n ≤ 0 → length s ≤ 0 → endText n s ≡ []
-unfolding endText endRefusal restRefusal reasonText passes
-end-none zero [] h g = refl
-end-none zero (x ∷ xs) h g = absurd (omega arith)
-end-none (suc n) s h g = absurd (omega arith)
+unfolding endText reasonText passes
+end-none n s h g = rw (ends-none n s h g)
 
 -- there is no whole row to print: none is left, or the bytes are too few for one
 abbrev pub Spent : Course → List ℕ → Type 0

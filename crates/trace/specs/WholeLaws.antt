@@ -3,7 +3,7 @@ use mathlib.Core.Path.{_≡_, refl, sym, ap, _∙_, subst}
 use mathlib.Core.List.{List, [], _∷_, _++_, append-nil}
 use mathlib.Core.Bool.{Bool, true, false, cond, _&&_, true≢false}
 use mathlib.Core.Logic.{⊎-elim, inl, inr}
-use Prim.Native.Nat.{ℕ, zero, suc, _+_, _-_, _*_, _/_, _≤_, _<_}
+use Prim.Native.Nat.{ℕ, suc, _+_, _-_, _*_, _/_, _≤_, _<_}
 use native.Mathlib.Nat.{mul-assoc, mul-comm, div-eq-sub-div, mul-le-mul}
 use native.Mathlib.Omega.{arith}
 use lib.Dec.{ltb, leb}
@@ -24,9 +24,9 @@ use Rattle.npy.specs.Cell.{least}
 use Rattle.trace.specs.declared.course.Course.{Course}
 use Rattle.trace.specs.declared.course.Begun.{Begun}
 use Rattle.trace.specs.declared.course.Went.{Went}
-use Rattle.trace.specs.Trace.{startOf, rowWidth, rowLine, rowOn, nextRows, onRows, restRefusal, courseRefusal, endRefusal, refusedLine, reasonText, endText, courseText, replayOf}
+use Rattle.trace.specs.Trace.{startOf, rowWidth, rowLine, rowOn, nextRows, onRows, courseRefusal, endRefusal, refusedLine, reasonText, endText, courseText, replayOf}
 use Rattle.trace.specs.Slices.{laned, rowsFor, rowsIn, wentOf, wrote, wroteCount, replayRefusal, replayedOf}
-use Rattle.trace.specs.TraceLaws.{Whole, whole-spent, whole-rows, refusal-cut, spent-refusal, wholeRows, whole-is, rowsOf, Accepted, accepted-all, accepted-whole, firstHead, secondAt, secondHead, started, start-within, row-length, rows-length, spent-text, row-cut, rows-cut, on-left, on-kind, on-lanes, on-width}
+use Rattle.trace.specs.TraceLaws.{ends-cut, ends-rest, ends-none, Whole, whole-spent, whole-rows, refusal-cut, spent-refusal, wholeRows, whole-is, rowsOf, Accepted, accepted-all, accepted-whole, firstHead, secondAt, secondHead, started, start-within, row-length, rows-length, spent-text, row-cut, rows-cut, on-left, on-kind, on-lanes, on-width}
 use Rattle.trace.specs.RowsLaws.{room, sets-append, laned-parts, width-range}
 use Rattle.trace.specs.EndLaws.{one-digit, two-digits}
 
@@ -72,21 +72,6 @@ next-length n c s = rows-length n c s ∙ ap (λ (m : ℕ). n * m) (mul-comm 9 (
 pub over : (c : Course) (s : List ℕ) → (0 < c .left → length s < rowWidth c) → courseText c s ≡ endText (c .left) s
 over c s h = spent-text c s (⊎-elim (λ (l : 0 < c .left). inr (h l)) (λ (g : c .left ≤ 0). inl (omega arith)) (lt-or-le 0 (c .left)))
 
-ends-cut : (l : ℕ) (s : List ℕ) → 0 < l → endRefusal l s ≡ Refusal.Cut
-unfolding endRefusal
-ends-cut zero s h = absurd (omega arith)
-ends-cut (suc l) s h = refl
-
-ends-rest : (s : List ℕ) → 0 < length s → endRefusal 0 s ≡ Refusal.Rest
-unfolding endRefusal restRefusal
-ends-rest [] h = absurd (omega arith)
-ends-rest (x ∷ s) h = refl
-
-ends-none : (s : List ℕ) → length s ≡ 0 → endRefusal 0 s ≡ Refusal.None
-unfolding endRefusal restRefusal
-ends-none [] h = refl
-ends-none (x ∷ s) h = absurd (omega arith)
-
 -- ---- the whole rows that are there
 
 -- the text of a trace: that of its whole rows, and the line of what it is refused with
@@ -106,10 +91,10 @@ module _ (c : Course) (s : List ℕ) (n : ℕ) (whole : Whole c s n) where
   reason-cut h = sym (refusal-here ∙ ends-cut (c .left - n) _ (omega arith))
 
   pub reason-rest : c .left ≤ n → n * rowWidth c < length s → Refusal.Rest ≡ courseRefusal c s
-  reason-rest h g = let e : c .left - n ≡ 0 = omega arith in sym (refusal-here ∙ rw e (ends-rest _ (rw length-drop (omega arith))))
+  reason-rest h g = sym (refusal-here ∙ ends-rest (c .left - n) _ (omega arith) (rw length-drop (omega arith)))
 
   pub reason-none : c .left ≤ n → length s ≤ n * rowWidth c → Refusal.None ≡ courseRefusal c s
-  reason-none h g = let e : c .left - n ≡ 0 = omega arith in sym (refusal-here ∙ rw e (ends-none _ (rw length-drop (omega arith))))
+  reason-none h g = sym (refusal-here ∙ ends-none (c .left - n) _ (omega arith) (rw length-drop (omega arith)))
 
 -- ---- the loop that prints a trace
 
