@@ -10,7 +10,6 @@ use Rattle.float.specs.FloatLaws.{Within}
 use Rattle.bank.specs.declared.lane.Lane.{Lane}
 use Rattle.bank.specs.declared.lane.Op.{Op}
 use Rattle.bank.specs.declared.lane.Answer.{Answer}
-use Rattle.bank.specs.declared.lane.Stepped.{Stepped}
 use Rattle.bank.specs.declared.Bank.{Bank}
 use Rattle.bank.specs.Lane.{laneStep}
 use Rattle.bank.specs.LaneLaws.{BoundedLane, closed-bounded, step-bounded}
@@ -19,11 +18,6 @@ use Rattle.bank.specs.SingleLaws.{laneOf, Good, step-as}
 use Rattle.bank.specs.Bank.{freshBank, Eight, laneAt, bankStep}
 use Rattle.bank.specs.BankLaws.{fresh-eight, fresh-closed, step-eight, named, others}
 use Rattle.bank.specs.Runs.{For, run, after, ofLane, laneRun, laneAfter}
-
--- a lane of a bank beside a single controller: the same answers to the lane's calls, and the same controller left
-pub record Apart (L : ℕ) (b : Bank) (c : Single) (calls : List (For Op)) : Type 0 where
-  pub answers : ofLane L (run b calls) ≡ singleRun c (ofLane L calls)
-  pub left : laneAt (after b calls) L ≡ laneOf (singleAfter c (ofLane L calls))
 
 -- whatever else is called on a bank, a lane answers as it would by itself, and is left so
 pub record Own (L : ℕ) (b : Bank) (calls : List (For Op)) : Type 0 where
@@ -35,6 +29,11 @@ pub record As (c : Single) (ops : List Op) : Type 0 where
   pub answers : laneRun (laneOf c) ops ≡ singleRun c ops
   pub left : laneAfter (laneOf c) ops ≡ laneOf (singleAfter c ops)
   pub good : Good (singleAfter c ops)
+
+-- a lane of a bank beside a single controller: the same answers to the lane's calls, and the same controller left
+pub record Apart (L : ℕ) (b : Bank) (c : Single) (calls : List (For Op)) : Type 0 where
+  pub answers : ofLane L (run b calls) ≡ singleRun c (ofLane L calls)
+  pub left : laneAt (after b calls) L ≡ laneOf (singleAfter c (ofLane L calls))
 
 pub single-run : (ops : List Op) (c : Single) → Good c → As c ops
 unfolding laneRun laneAfter singleRun singleAfter
@@ -88,13 +87,13 @@ module _ (L : ℕ) (within : L ≤ 7) where
 
 -- ---- the integral
 
-bounded-from : (c : Single) (ops : List Op) → Good c → BoundedLane (laneOf c) → BoundedLane (laneOf (singleAfter c ops))
-unfolding singleAfter
-bounded-from c [] g b = b
-bounded-from c (op ∷ ops) g b =
-    let own = step-as c op g in
-    bounded-from (singleStep c op .single) ops (own .good) (subst (λ (s : Stepped). BoundedLane (s .lane)) (own .same) (step-bounded (laneOf c) op b))
+after-bounded : (ops : List Op) (l : Lane) → BoundedLane l → BoundedLane (laneAfter l ops)
+unfolding laneAfter
+after-bounded [] l b = b
+after-bounded (op ∷ ops) l b = after-bounded ops (laneStep l op .lane) (step-bounded l op b)
 
 -- after every run of a fresh bank each lane's integral is NaN or from −1 to 1; a closed lane's is +0
 pub integral-bounded : (calls : List (For Op)) (L : ℕ) → L ≤ 7 → Within F.minusOne F.one (laneAt (after freshBank calls) L .pid .integral)
-integral-bounded calls L h = subst BoundedLane (sym (run-leaves L h calls)) (bounded-from none (ofLane L calls) tt closed-bounded)
+integral-bounded calls L h =
+    let fresh : BoundedLane (laneAt freshBank L) = subst BoundedLane (sym (fresh-closed L h)) closed-bounded in
+    subst BoundedLane (sym (lane-run L h calls freshBank fresh-eight .left)) (after-bounded (ofLane L calls) (laneAt freshBank L) fresh)

@@ -31,7 +31,7 @@ zeroTerms = record { «p_out» = F.zero; «i_out» = F.zero; «dr_out» = F.zero
 unfoldable pub zeroLowpass : Lowpass
 zeroLowpass = record { tau = F.zero; dt = F.zero; y = F.zero; alpha0 = F.zero; alpha1 = F.zero }
 
--- the fields, in the Rust's order
+-- the fields, in the Rust's order; its max_integral is always 1 and no field
 abbrev pub rateOf : Float → Float → Float → Float → Float → Float → PidTerms → Float → Bool → Lowpass → NthOrderLowpass → Slew → RatePid
 rateOf kp ki kd integral prevMeas prevRef terms dt on lowpass dLowpass dSlew = record { kp = kp; ki = ki; kd = kd; integral = integral; «prev_meas» = prevMeas; «prev_ref» = prevRef; terms = terms; dt = dt; «integral_en» = on; lowpass = lowpass; «d_lowpass» = dLowpass; «d_slew» = dSlew }
 

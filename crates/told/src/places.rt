@@ -1,6 +1,7 @@
 // One run of words keeps the state of every type, so that a line is answered with one slice lent for all of them.
 
-// How many words the terms of a rate controller have, the controller, and a lane of the bank.
+// How many words the terms of a rate controller have, the controller (six numbers, the terms, dt, the switch, three low passes and the limiter), and
+// a lane of the bank.
 pub const TERMS_WORDS: usize = 4;
 
 pub const RATE_PID_WORDS: usize = TERMS_WORDS + 27;

@@ -27,9 +27,9 @@ use Rattle.bank.specs.Lane.{plain}
 use Rattle.bank.specs.Bank.{freshBank, Eight, laneAt, bankStep}
 use Rattle.bank.specs.BankLaws.{fresh-eight, fresh-closed}
 use Rattle.bank.specs.Single.{Single, none, one, newSingle, singleStep, singleRun, singleAfter}
-use Rattle.bank.specs.SingleLaws.{laneOf, Good, step-as}
+use Rattle.bank.specs.SingleLaws.{laneOf, Good}
 use Rattle.bank.specs.Runs.{For, for, run, after, ofLane}
-use Rattle.bank.specs.RunLaws.{apart}
+use Rattle.bank.specs.RunLaws.{single-run, apart}
 use Rattle.bank.specs.Rows.{nextLane, updateCalls, valuesOf}
 use Rattle.bank.specs.RowsLaws.{values-length}
 use Rattle.bank.specs.ColumnsLaws.{after-eight}
@@ -97,11 +97,6 @@ pub record Lies (L : ℕ) (b : Bank) (c : Single) : Type 0 where
   pub here : laneAt b L ≡ laneOf c
   pub good : Good c
 
-good-after : (ops : List Op) (c : Single) → Good c → Good (singleAfter c ops)
-unfolding singleAfter
-good-after [] c g = g
-good-after (op ∷ ops) c g = good-after ops (singleStep c op .single) (step-as c op g .good)
-
 pub fresh-lies : (L : ℕ) → L ≤ 7 → Lies L freshBank none
 fresh-lies L h = record { eight = fresh-eight; here = fresh-closed L h; good = tt }
 
@@ -111,7 +106,7 @@ lies-after L h calls b c l =
     record {
       eight = after-eight calls b (l .eight);
       here = apart L h calls b c (l .eight) (l .here) (l .good) .left;
-      good = good-after (ofLane L calls) c (l .good);
+      good = single-run (ofLane L calls) c (l .good) .good;
     }
 
 -- the values that it answers

@@ -87,28 +87,28 @@ row-cut c s hl hs =
 pub rows-on : (n w len : ℕ) → suc n * w ≤ len → (w ≤ len) × (n * w ≤ len - w)
 rows-on n w len h = let g : n * w + w ≤ len = rw suc-mul at h in (omega arith, omega arith)
 
+-- n rows on, the text is theirs and then that of what comes after them, and what the trace is refused with is the same
+both-cut : (n : ℕ) (c : Course) (s : List ℕ) → n ≤ c .left → n * rowWidth c ≤ length s
+    → (courseText c s ≡ nextRows n c s ++ courseText (onRows n c s) (drop (n * rowWidth c) s)) × (courseRefusal c s ≡ courseRefusal (onRows n c s) (drop (n * rowWidth c) s))
+unfolding nextRows onRows rowOn
+both-cut zero c s hl hs = (rw zero-mul, rw zero-mul)
+both-cut (suc n) c s hl hs =
+    let w = rowWidth c in
+    let next : Course = rowOn c (c .left - 1) s in
+    let b = rows-on n w (length s) hs in
+    let l : n ≤ c .left - 1 = omega arith in
+    let m : n * rowWidth next ≤ length (drop w s) = rw (width-on c (c .left - 1) s, length-drop) (b .1) in
+    let rest = both-cut n next (drop w s) l m in (
+      rw (row-cut c s (omega arith) (b .0), rest .0, append-assoc, suc-mul, width-on c (c .left - 1) s, drop-drop, add-comm (n * w) w),
+      refusal-on c s (omega arith) (row-passes c s (b .0)) ∙ rw (rest .1, suc-mul, width-on c (c .left - 1) s, drop-drop, add-comm (n * w) w),
+    )
+
 pub rows-cut : (n : ℕ) (c : Course) (s : List ℕ) → n ≤ c .left → n * rowWidth c ≤ length s
     → courseText c s ≡ nextRows n c s ++ courseText (onRows n c s) (drop (n * rowWidth c) s)
-unfolding nextRows onRows rowOn
-rows-cut zero c s hl hs = rw zero-mul
-rows-cut (suc n) c s hl hs =
-    let w = rowWidth c in
-    let next : Course = rowOn c (c .left - 1) s in
-    let b = rows-on n w (length s) hs in
-    let l : n ≤ c .left - 1 = omega arith in
-    let m : n * rowWidth next ≤ length (drop w s) = rw (width-on c (c .left - 1) s, length-drop) (b .1) in
-    rw (row-cut c s (omega arith) (b .0), rows-cut n next (drop w s) l m, append-assoc, suc-mul, width-on c (c .left - 1) s, drop-drop, add-comm (n * w) w)
+rows-cut n c s hl hs = both-cut n c s hl hs .0
 
 pub refusal-cut : (n : ℕ) (c : Course) (s : List ℕ) → n ≤ c .left → n * rowWidth c ≤ length s → courseRefusal c s ≡ courseRefusal (onRows n c s) (drop (n * rowWidth c) s)
-unfolding onRows rowOn
-refusal-cut zero c s hl hs = rw zero-mul
-refusal-cut (suc n) c s hl hs =
-    let w = rowWidth c in
-    let next : Course = rowOn c (c .left - 1) s in
-    let b = rows-on n w (length s) hs in
-    let l : n ≤ c .left - 1 = omega arith in
-    let m : n * rowWidth next ≤ length (drop w s) = rw (width-on c (c .left - 1) s, length-drop) (b .1) in
-    refusal-on c s (omega arith) (row-passes c s (b .0)) ∙ rw (refusal-cut n next (drop w s) l m, suc-mul, width-on c (c .left - 1) s, drop-drop, add-comm (n * w) w)
+refusal-cut n c s hl hs = both-cut n c s hl hs .1
 
 -- ---- the whole rows, and then one ending
 
@@ -149,21 +149,19 @@ end-none n s h g = rw (ends-none n s h g)
 abbrev pub Spent : Course → List ℕ → Type 0
 Spent c s = (c .left ≡ 0) ⊎ (length s < rowWidth c)
 
+no-rows : (n : ℕ) (c : Course) (s : List ℕ) → (n ≡ 0) ⊎ (length s < rowWidth c) → (rowsRefusal n c s ≡ endRefusal n s) × (rowsText n c s ≡ [])
+unfolding rowsRefusal rowsText rowRefusal endRefusal passes
+no-rows zero c s h = (refl, refl)
+no-rows (suc n) c s h =
+    ⊎-elim (λ (e : suc n ≡ 0). absurd (omega arith)) (λ (l : length s < rowWidth c). let short = lt-ltb (length s) (rowWidth c) l in (rw short, rw short)) h
+
 pub spent-refusal : (c : Course) (s : List ℕ) → Spent c s → courseRefusal c s ≡ endRefusal (c .left) s
-unfolding courseRefusal rowsRefusal rowRefusal endRefusal passes
-spent-refusal c s h = go (c .left) h
-  where
-    go : (n : ℕ) → (n ≡ 0) ⊎ (length s < rowWidth c) → rowsRefusal n c s ≡ endRefusal n s
-    go zero h = refl
-    go (suc n) h = ⊎-elim (λ (e : suc n ≡ 0). absurd (omega arith)) (λ (l : length s < rowWidth c). rw (lt-ltb (length s) (rowWidth c) l)) h
+unfolding courseRefusal
+spent-refusal c s h = no-rows (c .left) c s h .0
 
 pub spent-text : (c : Course) (s : List ℕ) → Spent c s → courseText c s ≡ endText (c .left) s
-unfolding courseText endText rowsText rowRefusal passes
-spent-text c s h = rw (spent-refusal c s h, go (c .left) h)
-  where
-    go : (n : ℕ) → (n ≡ 0) ⊎ (length s < rowWidth c) → rowsText n c s ≡ []
-    go zero h = refl
-    go (suc n) h = ⊎-elim (λ (e : suc n ≡ 0). absurd (omega arith)) (λ (l : length s < rowWidth c). rw (lt-ltb (length s) (rowWidth c) l)) h
+unfolding courseText endText
+spent-text c s h = rw (spent-refusal c s h, no-rows (c .left) c s h .1)
 
 -- m is the number of whole rows that the bytes have, and no more than are left
 pub record Whole (c : Course) (s : List ℕ) (m : ℕ) : Type 0 where

@@ -1,4 +1,4 @@
--- A whole file: how long its text is, what it ends with, and that it is the text of its rows and then of its refusal. Assumes nothing.
+-- A whole file: how long its text is, what it ends with, and that it is the text of its rows and then of its refusal. And that a file is accepted exactly where nothing is refused. Assumes nothing.
 use mathlib.Core.Path.{_≡_, refl, sym, ap, _∙_, subst}
 use mathlib.Core.List.{List, [], _∷_, _++_, append-nil}
 use mathlib.Core.Bool.{Bool, true, false, cond, _&&_, true≢false}
@@ -24,8 +24,8 @@ use Rattle.npy.specs.Cell.{least}
 use Rattle.trace.specs.declared.course.Course.{Course}
 use Rattle.trace.specs.declared.course.Begun.{Begun}
 use Rattle.trace.specs.declared.course.Went.{Went}
-use Rattle.trace.specs.Trace.{startOf, rowWidth, rowLine, rowOn, nextRows, onRows, courseRefusal, endRefusal, refusedLine, reasonText, endText, courseText, replayOf}
-use Rattle.trace.specs.Slices.{laned, rowsFor, rowsIn, wentOf, wrote, wroteCount, replayRefusal, replayedOf}
+use Rattle.trace.specs.Trace.{startOf, rowWidth, rowLine, rowOn, nextRows, onRows, courseRefusal, endRefusal, refusedLine, reasonText, endText, courseText, replayOf, replayRefusal}
+use Rattle.trace.specs.Slices.{laned, rowsFor, rowsIn, wentOf, wrote, wroteCount, replayedOf}
 use Rattle.trace.specs.TraceLaws.{ends-cut, ends-rest, ends-none, Whole, whole-spent, whole-rows, refusal-cut, spent-refusal, wholeRows, whole-is, rowsOf, Accepted, accepted-all, accepted-whole, firstHead, secondAt, secondHead, started, start-within, row-length, rows-length, spent-text, row-cut, rows-cut, on-left, on-kind, on-lanes, on-width}
 use Rattle.trace.specs.RowsLaws.{room, sets-append, laned-parts, width-range}
 use Rattle.trace.specs.EndLaws.{one-digit, two-digits}

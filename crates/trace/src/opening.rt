@@ -175,7 +175,7 @@ fn trace_start(k: usize, bank: Bank, at: usize, bytes: &[u8]) -> Begun
     }
 }
 
-// What the start of a file says. A window is enough that holds both headers and the settings: 2,184 bytes at most, or the whole file.
+// What the start of a file says. Of a longer file its first `enough()` bytes give the same answer.
 pub fn start(bytes: &[u8]) -> Begun
     ensures { λ r. ⌜ r ≡ startOf (now (bytes .entry)) ⌝ }
 {
