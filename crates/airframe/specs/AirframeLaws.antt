@@ -13,7 +13,7 @@ use lib.Ieee.Positive.{positive}
 use borrow.Author.Tests.{lt-ltb}
 use Rattle.float.specs.FloatLaws.{above-zero, zero-not-above}
 use Rattle.float.specs.F32 as F
-use Rattle.refusal.specs.Cases.{when-true, when-false}
+use Rattle.lemmas.specs.Cases.{when-true, when-false}
 use Rattle.refusal.specs.declared.Refusal.the-variants as Refusal
 use Rattle.airframe.specs.declared.Signs.{Signs}
 use Rattle.airframe.specs.declared.Motor.{Motor}

@@ -1,13 +1,12 @@
 -- What the callees ensure, put together into what the caller ensures. Assumes nothing.
-use mathlib.Core.Path.{_≡_, refl, sym, _∙_}
+use mathlib.Core.Path.{_≡_}
 use mathlib.Core.Bool.{true, false}
-use mathlib.Core.List.{List, [], _∷_, map}
-use Prim.Native.Nat.{ℕ, zero, suc, _≤_, _<_}
-use native.Mathlib.Nat.{not-suc-le-zero, le-of-suc-le-suc}
+use Prim.Native.Nat.{ℕ, _≤_, _<_}
 use native.Mathlib.Omega.{arith}
 use borrow.Author.Tests.{lt-ltb, le-ltb}
-use lib.ListN.{getD, length, length-map}
+use lib.ListN.{getD, length}
 use lib.Ieee.{Float}
+use Rattle.lemmas.specs.Lists.{any-default}
 use Rattle.float.specs.F32 as F
 use Rattle.refusal.specs.declared.Refusal.the-variants as Refusal
 use Rattle.filters.specs.SlewRate.{badLimit}
@@ -85,15 +84,6 @@ module _ (l : Lane) where
 
 -- ---- the bank's
 
--- within a list, what would stand past its end does not matter
-pub any : {A : Type 0} (l : List A) (i : ℕ) (d e : A) → i < length l → getD l i d ≡ getD l i e
-any [] i d e h = absurd (not-suc-le-zero h)
-any (x ∷ l) zero d e h = refl
-any (x ∷ l) (suc i) d e h = any l i d e (le-of-suc-le-suc h)
-
-pub as-long : {A B : Type 0} (f : A → B) (l : List A) → length (map f l) ≡ 8 → length l ≡ 8
-as-long f l h = sym (length-map l f) ∙ h
-
 module _ (b : Bank) (i : ℕ) (op : Op) where
   pub above : 7 < i → (t : PidTerms) → t ≡ zeroTerms → banked (answered Refusal.Lane F.zero t) b ≡ bankStep b i op
   unfolding bankStep
@@ -102,4 +92,4 @@ module _ (b : Bank) (i : ℕ) (op : Op) where
   pub placing : i ≤ 7 → length (b .lanes) ≡ 8 → (d : Lane) (next : Stepped) → next ≡ laneStep (getD (b .lanes) i d) op
       → banked (next .answer) (put b i (next .lane)) ≡ bankStep b i op
   unfolding bankStep
-  placing h n d next e = simp (le-ltb 7 i h, e, any (b .lanes) i d closedLane (omega (arith, n)))
+  placing h n d next e = simp (le-ltb 7 i h, e, any-default (b .lanes) i d closedLane (omega (arith, n)))

@@ -1,14 +1,16 @@
 -- Laws of a call on the bank, for every bank of eight lanes, one built by hand too. Assumes nothing.
-use mathlib.Core.Path.{_≡_, refl, ap}
+use mathlib.Core.Path.{_≡_, refl, ap, subst, _∙_}
 use mathlib.Core.Bool.{Bool, true, false, cond}
 use mathlib.Core.List.{List}
+use mathlib.Core.Logic.{⊎-elim}
 use Prim.Native.Nat.{ℕ, _≤_, _<_}
 use native.Mathlib.Omega.{arith}
-use borrow.Author.Tests.{lt-ltb, le-ltb}
-use lib.Dec.{ltb}
+use borrow.Author.Tests.{lt-ltb, le-ltb, eqb-true, eqb-false}
+use lib.Dec.{ltb, eqb}
 use lib.Ieee.{Float}
 use lib.ListN.{length-set, getD-replicate}
 use lib.Seq.{getD-set-same, getD-set-other, set-getD}
+use Rattle.lemmas.specs.Cases.{lt-or-le}
 use Rattle.refusal.specs.declared.Refusal.{Refusal}
 use Rattle.refusal.specs.declared.Refusal.the-variants as Refusal
 use Rattle.rate_pid.specs.RatePidLaws.{Frozen, Stood}
@@ -17,7 +19,7 @@ use Rattle.bank.specs.declared.lane.Op.{Op}
 use Rattle.bank.specs.declared.lane.Op.the-variants.{Update}
 use Rattle.bank.specs.declared.Bank.{Bank}
 use Rattle.bank.specs.Lane.{closedLane, plain, laneStep}
-use Rattle.bank.specs.LaneLaws.{laneRefusal, step-refusal, step-leaves, lane-frozen}
+use Rattle.bank.specs.LaneLaws.{openRefusal, laneRefusal, step-refusal, update-refusal-kept, step-leaves, lane-frozen}
 use Rattle.bank.specs.Bank.{freshBank, Eight, laneAt, banked, placed, bankStep}
 
 pub fresh-eight : Eight freshBank
@@ -84,6 +86,31 @@ module _ (b : Bank) (i : ℕ) (op : Op) where
           let left = step-leaves (laneAt b i) op in
           let k′ : laneStep (laneAt b i) op .answer .refusal ≡ Refusal.None → ⊥ = λ h. k (simp e h) in
           (simp (e, left .lane k′) (ap (λ (l : List Lane). record { lanes = l }) (set-getD (b .lanes) i closedLane)), simp e (left .answer k′))
+
+-- ---- what an update of a lane is refused with, whatever it is given
+
+unfoldable pub updateRefusal : Bank → ℕ → Refusal
+updateRefusal b i = cond (ltb 7 i) Refusal.Lane (openRefusal (laneAt b i))
+
+module _ (b : Bank) (i : ℕ) (r m p : Float) where
+  pub update-refused-with : bankStep b i (Update r m p) .answer .refusal ≡ updateRefusal b i
+  unfolding updateRefusal bankRefusal laneRefusal
+  update-refused-with = refusal-is b i (Update r m p)
+
+  -- it is the same after the update, of this lane and of every other
+  pub update-refusals-kept : (k : ℕ) → Eight b → updateRefusal (bankStep b i (Update r m p) .bank) k ≡ updateRefusal b k
+  unfolding updateRefusal
+  update-refusals-kept k n =
+      ⊎-elim
+      (λ (h : 7 < k). simp (lt-ltb 7 k h))
+      (λ (h : k ≤ 7). simp (le-ltb 7 k h) (go h (eqb k i) refl))
+      (lt-or-le 7 k)
+    where
+      go : k ≤ 7 → (t : Bool) → eqb k i ≡ t → openRefusal (laneAt (bankStep b i (Update r m p) .bank) k) ≡ openRefusal (laneAt b k)
+      go h false e = ap openRefusal (others b i (Update r m p) k (eqb-false k i e))
+      go h true e =
+          subst (λ (j : ℕ). openRefusal (laneAt (bankStep b j (Update r m p) .bank) k) ≡ openRefusal (laneAt b k)) (eqb-true k i e)
+          (ap openRefusal (named b k (Update r m p) h n .1) ∙ update-refusal-kept (laneAt b k) r m p)
 
 -- ---- a frozen update leaves the lane's integral and damping filter
 

@@ -58,10 +58,6 @@ read l t = stepped (answered (t .refusal) F.zero (t .terms)) l
 
 -- ---- the step
 
--- an update meets no refusal
-unfoldable pub ready : Lane → Bool
-ready l = l .«open» && not (badRate (l .pid))
-
 -- 9 comes before anything else
 unfoldable pub whenOpen : Lane → Stepped → Stepped
 whenOpen l next = cond (l .«open») next (told Refusal.Closed l)

@@ -1,9 +1,9 @@
 -- Laws of a lane's step, for every lane and every call: the refusal that it gives, what a refused call leaves, the
 -- integral's bound, and the frozen update. Assumes nothing.
 use mathlib.Core.Path.{_≡_, refl, sym, ap}
-use mathlib.Core.Bool.{Bool, true, false, cond, true≢false}
+use mathlib.Core.Bool.{Bool, true, false, cond}
 use lib.Ieee.{Float}
-use Rattle.float.specs.F32 as F
+use Rattle.lemmas.specs.Cases.{read-picked}
 use Rattle.refusal.specs.declared.Refusal.{Refusal}
 use Rattle.refusal.specs.declared.Refusal.the-variants as Refusal
 use Rattle.filters.specs.SlewRate.{badLimit}
@@ -12,14 +12,14 @@ use Rattle.rate_pid.specs.declared.Changed.{Changed}
 use Rattle.rate_pid.specs.declared.Updated.{Updated}
 use Rattle.rate_pid.specs.declared.Terms.{Terms}
 use Rattle.rate_pid.specs.RatePid.{newRate, badRate, changed, guarded, callSlew, callUpdate, callSetTs, callSetGains, callEnableIntegral, callResetIntegral, callGetTerms}
-use Rattle.rate_pid.specs.RatePidLaws.{update-refused, new-limit, slew-accepted, Bounded, Frozen, Stood, update-frozen, zero-bounded, new-bounded, slew-bounded, update-bounded, set-ts-bounded, set-gains-bounded, enable-integral-bounded, reset-integral-bounded}
+use Rattle.rate_pid.specs.RatePidLaws.{update-refused, update-accepted, step-limit, new-limit, slew-accepted, Bounded, Frozen, Stood, update-frozen, zero-bounded, new-bounded, slew-bounded, update-bounded, set-ts-bounded, set-gains-bounded, enable-integral-bounded, reset-integral-bounded}
 use Rattle.bank.specs.declared.lane.Lane.{Lane}
 use Rattle.bank.specs.declared.lane.SlewLimit.{SlewLimit}
 use Rattle.bank.specs.declared.lane.SlewLimit.the-variants.{Off, At}
 use Rattle.bank.specs.declared.lane.Op.{Op}
 use Rattle.bank.specs.declared.lane.Op.the-variants.{Open, Close, Update, SetTs, SetGains, EnableIntegral, ResetIntegral, ReadTerms}
 use Rattle.bank.specs.declared.lane.Stepped.{Stepped}
-use Rattle.bank.specs.Lane.{closedLane, openLane, ready, plain, told, heard, valued, read, running, whenOpen, whenGood, opened, laneStep}
+use Rattle.bank.specs.Lane.{closedLane, openLane, plain, told, heard, valued, read, running, whenOpen, whenGood, opened, laneStep}
 
 -- what holds at both ends of a test holds of what it picks
 when-open-has : (P : Stepped → Type 0) (l : Lane) (next : Stepped) → (l .«open» ≡ true → P next) → P (told Refusal.Closed l) → P (whenOpen l next)
@@ -88,11 +88,6 @@ opened-refusal l s (At limit) g = go (badLimit limit) refl
     go true e = simp e
     go false e = simp (e, slew-accepted s g limit e)
 
--- a test picks what is read of an answer as it picks the answers
-picks : {A B : Type 0} (f : A → B) (t : Bool) (a b : A) → f (cond t a b) ≡ cond t (f a) (f b)
-picks f true a b = refl
-picks f false a b = refl
-
 abbrev why : Stepped → Refusal
 why s = s .answer .refusal
 
@@ -101,14 +96,24 @@ whyChanged c = c .refusal
 
 pub step-refusal : (l : Lane) (op : Op) → laneStep l op .answer .refusal ≡ laneRefusal l op
 unfolding laneStep laneRefusal whenOpen whenGood callSetTs callSetGains callEnableIntegral callResetIntegral callUpdate callGetTerms guarded
-step-refusal l (Open kp ki kd tau dt slew) = simp (picks why, opened-refusal l (newRate kp ki kd tau dt) slew (new-limit kp ki kd tau dt))
-step-refusal l Close = simp (picks why)
-step-refusal l (Update r m p) = simp (picks why, picks (λ (u : Updated). u .answer .refusal))
-step-refusal l (SetTs ts) = simp (picks why, picks whyChanged)
-step-refusal l (SetGains kp ki kd) = simp (picks why, picks whyChanged)
-step-refusal l (EnableIntegral on) = simp (picks why, picks whyChanged)
-step-refusal l ResetIntegral = simp (picks why, picks whyChanged)
-step-refusal l ReadTerms = simp (picks why, picks (λ (t : Terms). t .refusal))
+step-refusal l (Open kp ki kd tau dt slew) = simp (read-picked why, opened-refusal l (newRate kp ki kd tau dt) slew (new-limit kp ki kd tau dt))
+step-refusal l Close = simp (read-picked why)
+step-refusal l (Update r m p) = simp (read-picked why, read-picked (λ (u : Updated). u .answer .refusal))
+step-refusal l (SetTs ts) = simp (read-picked why, read-picked whyChanged)
+step-refusal l (SetGains kp ki kd) = simp (read-picked why, read-picked whyChanged)
+step-refusal l (EnableIntegral on) = simp (read-picked why, read-picked whyChanged)
+step-refusal l ResetIntegral = simp (read-picked why, read-picked whyChanged)
+step-refusal l ReadTerms = simp (read-picked why, read-picked (λ (t : Terms). t .refusal))
+
+-- an update leaves what the next one meets
+pub update-refusal-kept : (l : Lane) (r m p : Float) → openRefusal (laneStep l (Update r m p) .lane) ≡ openRefusal l
+unfolding laneStep whenOpen
+update-refusal-kept l r m p = go (l .«open») (badRate (l .pid)) refl refl
+  where
+    go : (o b : Bool) → l .«open» ≡ o → badRate (l .pid) ≡ b → openRefusal (laneStep l (Update r m p) .lane) ≡ openRefusal l
+    go false b eo eb = simp eo
+    go true true eo eb = simp (eo, update-refused (l .pid) eb)
+    go true false eo eb = simp (eo, update-accepted (l .pid) eb, step-limit (l .pid))
 
 -- ---- a refused call leaves the lane, and its numbers are +0
 
@@ -200,14 +205,3 @@ step-bounded l ReadTerms b = when-open-has Keeps l _ (λ o. b) b
 pub lane-frozen : (l : Lane) (r m p : Float) → Frozen (l .pid) r m → Stood (l .pid) (laneStep l (Update r m p) .lane .pid)
 unfolding laneStep
 lane-frozen l r m p h = when-open-has (λ (next : Stepped). Stood (l .pid) (next .lane .pid)) l _ (λ o. update-frozen (l .pid) r m p h) (refl, refl)
-
--- ---- an update of a lane that is not ready leaves it, and its value is +0
-
-pub idle : (l : Lane) (r m p : Float) → ready l ≡ false → (laneStep l (Update r m p) .lane ≡ l) × (laneStep l (Update r m p) .answer .y ≡ F.zero)
-unfolding laneStep whenOpen ready
-idle l r m p h = go (l .«open») (badRate (l .pid)) refl refl
-  where
-    go : (s t : Bool) → l .«open» ≡ s → badRate (l .pid) ≡ t → (laneStep l (Update r m p) .lane ≡ l) × (laneStep l (Update r m p) .answer .y ≡ F.zero)
-    go false t o b = (simp o, simp o)
-    go true true o b = (simp (o, update-refused (l .pid) b) (is-open l o), simp (o, update-refused (l .pid) b))
-    go true false o b = absurd (true≢false (simp (o, b) at h))

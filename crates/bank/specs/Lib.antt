@@ -6,7 +6,3 @@ pub mod Bank
 pub mod BankLaws
 pub mod Runs
 pub mod RunLaws
-pub mod Rows
-pub mod RowsLaws
-pub mod Columns
-pub mod ColumnsLaws

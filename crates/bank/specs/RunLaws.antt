@@ -1,85 +1,84 @@
 -- The run theorem: no lane sees another. And the integral's bound after every run. Assumes nothing.
 use mathlib.Core.Path.{_≡_, refl, sym, _∙_, ap, subst}
-use mathlib.Core.Bool.{Bool, true, false}
-use mathlib.Core.List.{List, [], _∷_}
+use mathlib.Core.List.{List}
 use Prim.Native.Nat.{ℕ, _≤_}
-use borrow.Author.Tests.{eqb-true, eqb-false}
-use lib.Dec.{eqb}
+use Rattle.lanes.specs.Runs.{Follows, Followed, follow, left-keeps}
+use Rattle.lanes.specs.Lanes.{For, ofLane, Apart, Own, own}
 use Rattle.float.specs.F32 as F
 use Rattle.float.specs.FloatLaws.{Within}
 use Rattle.bank.specs.declared.lane.Lane.{Lane}
 use Rattle.bank.specs.declared.lane.Op.{Op}
-use Rattle.bank.specs.declared.lane.Answer.{Answer}
 use Rattle.bank.specs.declared.Bank.{Bank}
 use Rattle.bank.specs.Lane.{laneStep}
 use Rattle.bank.specs.LaneLaws.{BoundedLane, closed-bounded, step-bounded}
-use Rattle.bank.specs.Single.{Single, none, singleStep, singleRun, singleAfter}
+use Rattle.bank.specs.Single.{Single, none, singleMachine, singleStep, singleRun, singleAfter}
 use Rattle.bank.specs.SingleLaws.{laneOf, Good, step-as}
 use Rattle.bank.specs.Bank.{freshBank, Eight, laneAt, bankStep}
 use Rattle.bank.specs.BankLaws.{fresh-eight, fresh-closed, step-eight, named, others}
-use Rattle.bank.specs.Runs.{For, run, after, ofLane, laneRun, laneAfter}
+use Rattle.bank.specs.Runs.{bankMachine, run, after, laneMachine, laneRun, laneAfter}
 
--- whatever else is called on a bank, a lane answers as it would by itself, and is left so
-pub record Own (L : ℕ) (b : Bank) (calls : List (For Op)) : Type 0 where
-  pub answers : ofLane L (run b calls) ≡ laneRun (laneAt b L) (ofLane L calls)
-  pub left : laneAt (after b calls) L ≡ laneAfter (laneAt b L) (ofLane L calls)
+-- a run leaves eight lanes
+pub after-eight : (calls : List (For Op)) (b : Bank) → Eight b → Eight (after b calls)
+after-eight = left-keeps bankMachine Eight (λ b q n. step-eight b (q .lane) (q .thing) n)
 
--- and a lane in which a single controller lies is that controller
-pub record As (c : Single) (ops : List Op) : Type 0 where
-  pub answers : laneRun (laneOf c) ops ≡ singleRun c ops
-  pub left : laneAfter (laneOf c) ops ≡ laneOf (singleAfter c ops)
-  pub good : Good (singleAfter c ops)
+-- a lane in which a single controller lies goes as that controller does
+single-follows : Follows laneMachine singleMachine laneOf Good
+single-follows =
+    record {
+      answer = λ c op g. ap (λ (s : _). s .answer) (step-as c op g .same);
+      next = λ c op g. ap (λ (s : _). s .lane) (step-as c op g .same);
+      good = λ c op g. step-as c op g .good;
+    }
 
--- a lane of a bank beside a single controller: the same answers to the lane's calls, and the same controller left
-pub record Apart (L : ℕ) (b : Bank) (c : Single) (calls : List (For Op)) : Type 0 where
-  pub answers : ofLane L (run b calls) ≡ singleRun c (ofLane L calls)
-  pub left : laneAt (after b calls) L ≡ laneOf (singleAfter c (ofLane L calls))
+pub single-run : (ops : List Op) (c : Single) → Good c → Followed laneMachine singleMachine laneOf Good ops c
+single-run = follow laneMachine singleMachine laneOf Good single-follows
 
-pub single-run : (ops : List Op) (c : Single) → Good c → As c ops
-unfolding laneRun laneAfter singleRun singleAfter
-single-run [] c g = record { answers = refl; left = refl; good = g }
-single-run (op ∷ ops) c g =
-    let own = step-as c op g in
-    let rest = single-run ops (singleStep c op .single) (own .good) in
-    record { answers = simp (own .same) (ap (λ (ys : List Answer). singleStep c op .answer ∷ ys) (rest .answers)); left = simp (own .same) (rest .left); good = rest .good }
+-- a controller lies in lane L of a bank
+pub record Lies (L : ℕ) (b : Bank) (c : Single) : Type 0 where
+  pub eight : Eight b
+  pub here : laneAt b L ≡ laneOf c
+  pub good : Good c
 
-module _ (L : ℕ) (within : L ≤ 7) where
-  pub lane-run : (calls : List (For Op)) (b : Bank) → Eight b → Own L b calls
-  unfolding run after ofLane laneRun laneAfter
-  lane-run [] b n = record { answers = refl; left = refl }
-  lane-run (q ∷ qs) b n = go (lane-run qs (bankStep b (q .lane) (q .thing) .bank) (step-eight b (q .lane) (q .thing) n)) (eqb L (q .lane)) refl
-    where
-      go : Own L (bankStep b (q .lane) (q .thing) .bank) qs → (t : Bool) → eqb L (q .lane) ≡ t → Own L b (q ∷ qs)
-      go rest false e =
-          let same = others b (q .lane) (q .thing) L (eqb-false L (q .lane) e) in
-          record { answers = simp e (rest .answers ∙ ap (λ (l : Lane). laneRun l (ofLane L qs)) same); left = simp e (rest .left ∙ ap (λ (l : Lane). laneAfter l (ofLane L qs)) same) }
-      go rest true e =
-          let is : L ≡ q .lane = eqb-true L (q .lane) e in
-          let own = named b L (q .thing) within n in
-          let named-own : (bankStep b (q .lane) (q .thing) .answer ≡ laneStep (laneAt b L) (q .thing) .answer) × (laneAt (bankStep b (q .lane) (q .thing) .bank) L ≡ laneStep (laneAt b L) (q .thing) .lane) =
-          subst (λ (i : ℕ). (bankStep b i (q .thing) .answer ≡ laneStep (laneAt b L) (q .thing) .answer) × (laneAt (bankStep b i (q .thing) .bank) L ≡ laneStep (laneAt b L) (q .thing) .lane)) is own in
-          record {
-            answers = simp (e, named-own .0) (ap (λ (ys : List Answer). laneStep (laneAt b L) (q .thing) .answer ∷ ys) (rest .answers ∙ ap (λ (l : Lane). laneRun l (ofLane L qs)) (named-own .1)));
-            left = simp e (rest .left ∙ ap (λ (l : Lane). laneAfter l (ofLane L qs)) (named-own .1));
-          }
-
-  -- a lane in which a single controller lies answers as it does and is left as it is, whatever else is called
-  pub apart : (calls : List (For Op)) (b : Bank) (c : Single) → Eight b → laneAt b L ≡ laneOf c → Good c → Apart L b c calls
-  apart calls b c n at g =
-      let own = lane-run calls b n in
-      let lies = single-run (ofLane L calls) c g in
+module _ (L : ℕ) (low : L ≤ 7) where
+  -- the bank's lanes do not see each other
+  pub bank-apart : Apart bankMachine laneMachine Eight L (λ b. laneAt b L)
+  bank-apart =
       record {
-        answers = own .answers ∙ ap (λ (l : Lane). laneRun l (ofLane L calls)) at ∙ lies .answers;
-        left = own .left ∙ ap (λ (l : Lane). laneAfter l (ofLane L calls)) at ∙ lies .left;
+        sound = λ b q n. step-eight b (q .lane) (q .thing) n;
+        named = λ b q. refl;
+        answer = λ b q n e. subst (λ (i : ℕ). bankStep b i (q .thing) .answer ≡ laneStep (laneAt b L) (q .thing) .answer) e (named b L (q .thing) low n .0);
+        next = λ b q n e. subst (λ (i : ℕ). laneAt (bankStep b i (q .thing) .bank) L ≡ laneStep (laneAt b L) (q .thing) .lane) e (named b L (q .thing) low n .1);
+        others = λ b q n e. others b (q .lane) (q .thing) L e;
       }
+
+  -- so whatever else is called on a bank of eight lanes, a lane answers as it would by itself, and is left so
+  pub lane-run : (calls : List (For Op)) (b : Bank) → Eight b → Own bankMachine laneMachine L (λ b. laneAt b L) b calls
+  lane-run = own bankMachine laneMachine Eight L (λ b. laneAt b L) bank-apart
+
+  -- a lane in which a single controller lies answers as it does, whatever else is called
+  pub lies-run : (calls : List (For Op)) (b : Bank) (c : Single) → Lies L b c → ofLane L (run b calls) ≡ singleRun c (ofLane L calls)
+  lies-run calls b c l = lane-run calls b (l .eight) .answered ∙ ap (λ (x : Lane). laneRun x (ofLane L calls)) (l .here) ∙ single-run (ofLane L calls) c (l .good) .answered
+
+  -- and after the run that controller lies there, having had the lane's calls
+  pub lies-after : (calls : List (For Op)) (b : Bank) (c : Single) → Lies L b c → Lies L (after b calls) (singleAfter c (ofLane L calls))
+  lies-after calls b c l =
+      let ends = single-run (ofLane L calls) c (l .good) in
+      record {
+        eight = after-eight calls b (l .eight);
+        here = lane-run calls b (l .eight) .stands ∙ ap (λ (x : Lane). laneAfter x (ofLane L calls)) (l .here) ∙ ends .stands;
+        good = ends .good;
+      }
+
+  pub fresh-lies : Lies L freshBank none
+  fresh-lies = record { eight = fresh-eight; here = fresh-closed L low; good = tt }
 
   -- THE RUN THEOREM: what a lane answers in a run of a fresh bank is what one controller answers to that lane's calls alone
   pub run-theorem : (calls : List (For Op)) → ofLane L (run freshBank calls) ≡ singleRun none (ofLane L calls)
-  run-theorem calls = apart calls freshBank none fresh-eight (fresh-closed L within) tt .answers
+  run-theorem calls = lies-run calls freshBank none fresh-lies
 
   -- and what lies in the lane is that controller
   pub run-leaves : (calls : List (For Op)) → laneAt (after freshBank calls) L ≡ laneOf (singleAfter none (ofLane L calls))
-  run-leaves calls = apart calls freshBank none fresh-eight (fresh-closed L within) tt .left
+  run-leaves calls = lies-after calls freshBank none fresh-lies .here
 
   -- two runs with the same calls for the lane have the same answers from it, whatever else stands between
   pub same-answers : (calls other : List (For Op)) → ofLane L calls ≡ ofLane L other → ofLane L (run freshBank calls) ≡ ofLane L (run freshBank other)
@@ -87,13 +86,8 @@ module _ (L : ℕ) (within : L ≤ 7) where
 
 -- ---- the integral
 
-after-bounded : (ops : List Op) (l : Lane) → BoundedLane l → BoundedLane (laneAfter l ops)
-unfolding laneAfter
-after-bounded [] l b = b
-after-bounded (op ∷ ops) l b = after-bounded ops (laneStep l op .lane) (step-bounded l op b)
-
 -- after every run of a fresh bank each lane's integral is NaN or from −1 to 1; a closed lane's is +0
 pub integral-bounded : (calls : List (For Op)) (L : ℕ) → L ≤ 7 → Within F.minusOne F.one (laneAt (after freshBank calls) L .pid .integral)
 integral-bounded calls L h =
     let fresh : BoundedLane (laneAt freshBank L) = subst BoundedLane (sym (fresh-closed L h)) closed-bounded in
-    subst BoundedLane (sym (lane-run L h calls freshBank fresh-eight .left)) (after-bounded (ofLane L calls) (laneAt freshBank L) fresh)
+    subst BoundedLane (sym (lane-run L h calls freshBank fresh-eight .stands)) (left-keeps laneMachine BoundedLane step-bounded (ofLane L calls) (laneAt freshBank L) fresh)

@@ -1,10 +1,11 @@
 -- One controller by itself, document 01's: none, or a rate controller that is stepped and set by its own definitions. It
 -- knows nothing of lanes and stores nothing while there is none.
 use mathlib.Core.Bool.{cond}
-use mathlib.Core.List.{List, [], _∷_}
+use mathlib.Core.List.{List}
 use Rattle.float.specs.F32 as F
 use Rattle.refusal.specs.declared.Refusal.{Refusal}
 use Rattle.refusal.specs.declared.Refusal.the-variants as Refusal
+use Rattle.lanes.specs.Runs.{Machine, answers, left}
 use Rattle.filters.specs.SlewRate.{badLimit}
 use Rattle.rate_pid.specs.declared.RatePid.{RatePid}
 use Rattle.rate_pid.specs.RatePid.{zeroTerms, stepRate, totalOf, newRate, limitRate, tsRate, gainsRate, enableRate, resetRate}
@@ -51,12 +52,13 @@ singleStep (one s) (EnableIntegral on) = says Refusal.None (one (enableRate s on
 singleStep (one s) ResetIntegral = says Refusal.None (one (resetRate s))
 singleStep (one s) ReadTerms = record { answer = answered Refusal.None F.zero (s .terms); single = one s }
 
+abbrev pub singleMachine : Machine Single Op Answer
+singleMachine = record { answer = λ c op. singleStep c op .answer; next = λ c op. singleStep c op .single }
+
 -- its answers to a list of calls
-unfoldable pub singleRun : Single → List Op → List Answer
-singleRun c [] = []
-singleRun c (op ∷ ops) = singleStep c op .answer ∷ singleRun (singleStep c op .single) ops
+abbrev pub singleRun : Single → List Op → List Answer
+singleRun c ops = answers singleMachine c ops
 
 -- and what there is after them
-unfoldable pub singleAfter : Single → List Op → Single
-singleAfter c [] = c
-singleAfter c (op ∷ ops) = singleAfter (singleStep c op .single) ops
+abbrev pub singleAfter : Single → List Op → Single
+singleAfter c ops = left singleMachine c ops

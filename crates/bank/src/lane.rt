@@ -2,7 +2,7 @@
 // are its calls one by one. A lane that is closed, or open already, is refused before its stored controller is tested,
 // and that before what the call is given. Refused, the lane is as it was.
 ghost use mathlib.Core.Path.{_≡_};
-ghost use Rattle.bank.specs.Lane.{closedLane, running, ready, told, heard, laneStep};
+ghost use Rattle.bank.specs.Lane.{closedLane, running, told, heard, laneStep};
 ghost use Rattle.bank.specs.declared.lane.Op.the-variants as Op;
 use rate_pid::Changed;
 use rate_pid::PidTerms;
@@ -93,20 +93,6 @@ impl Lane {
     {
         let pid = RatePid::zero();
         Lane { open: false, pid }
-    }
-
-    // Open, and its stored limit good: an update is not refused.
-    pub(crate) fn ready(self) -> bool
-        ensures { λ r. ⌜ r ≡ ready self ⌝ }
-    {
-        if self.open {
-            let pid = self.pid;
-            if pid.bad() {
-                return false;
-            }
-            return true;
-        }
-        false
     }
 
     // This lane as it is, and an answer without numbers.

@@ -1,22 +1,15 @@
 -- What the window's calls answer for a bad window, and for a good one. Assumes nothing.
 use mathlib.Core.Path.{_≡_, refl}
-use mathlib.Core.Bool.{Bool, true, false, cond, _||_, true≢false}
+use mathlib.Core.Bool.{true, false}
 use Prim.Native.Nat.{ℕ, _≤_}
 use borrow.Author.Tests.{ltb-false}
 use lib.Dec.{ltb}
 use lib.Ieee.{Float}
+use Rattle.lemmas.specs.Cases.{of-both, neither}
 use Rattle.float.specs.F32 as F
 use Rattle.refusal.specs.declared.Refusal.the-variants as Refusal
 use Rattle.filters.specs.declared.moving_average.MovingAverage.{MovingAverage}
 use Rattle.filters.specs.MovingAverage.{badLength, badWindow, windowOf, windowStore, windowMean, made, answered, newWithValueMovingAverage, stepMovingAverage}
-
-neither : (p q : Bool) → p || q ≡ false → (p ≡ false) × (q ≡ false)
-neither true q h = absurd (true≢false h)
-neither false q h = (refl, h)
-
-either : (b : Bool) (m n : MovingAverage) → m .length ≡ n .length → cond b m n .length ≡ n .length
-either true m n e = e
-either false m n e = refl
 
 -- a good window's length is at most 16, so its slots hold it
 pub length-fits : (length : ℕ) → badLength length ≡ false → length ≤ 16
@@ -39,7 +32,7 @@ module _ (s : MovingAverage) where
 
   pub store-length : (value : Float) → windowStore s value .length ≡ s .length
   unfolding windowStore
-  store-length value = either (ltb (s .head) (s .length)) _ _ refl
+  store-length value = of-both (λ (m : MovingAverage). m .length ≡ s .length) (ltb (s .head) (s .length)) _ _ refl refl
 
   pub step-refused : (value : Float) → badWindow s ≡ true → stepMovingAverage s value ≡ answered Refusal.Window F.zero s
   unfolding stepMovingAverage

@@ -13,6 +13,7 @@ use lib.Ieee.{Float, nan, inf, fin, binary32, up, down, below, level, ne, eq, lt
 use lib.Ieee.Fits.{up-pos}
 use lib.Ieee.Bits.{nanBits-above}
 use lib.Ieee.Compare.{differs-from-itself}
+use Rattle.lemmas.specs.Cases.{and-left, and-right}
 use Rattle.float.specs.F32 as F
 use Rattle.float.specs.F32.{_/f_}
 use Rattle.float.specs.Float.{negative, clampF}
@@ -84,14 +85,6 @@ no-nan-pattern n h = let e : nanBits binary32 n ≡ false = nanBits-above binary
 size-zero : (m : ℕ) (e : ℤ) → m * up e ≡ 0 → m ≡ 0
 size-zero zero e h = refl
 size-zero (suc m) e h = let z : 0 < suc m * up e = mul-pos (zero-lt-suc m) (up-pos e) in absurd (omega arith)
-
-pub and-left : (p q : Bool) → p && q ≡ true → p ≡ true
-and-left true q h = refl
-and-left false q h = h
-
-pub and-right : (p q : Bool) → p && q ≡ true → q ≡ true
-and-right true q h = h
-and-right false q h = absurd (true≢false (sym h))
 
 -- what equals zero is a zero
 pub eq-zero : (s : Bool) (m : ℕ) (e : ℤ) → eq (fin s m e) F.zero ≡ true → m ≡ 0

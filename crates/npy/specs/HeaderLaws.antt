@@ -14,8 +14,7 @@ use borrow.Author.Tests.{le-leb, lt-leb, leb-true, eq-eqb, ne-eqb, eqb-true}
 use Rattle.refusal.specs.declared.Refusal.{Refusal}
 use Rattle.refusal.specs.declared.Refusal.the-variants as Refusal
 use Rattle.refusal.specs.Refusal.{passes}
-use Rattle.refusal.specs.Cases.{lt-or-le}
-use Rattle.float.specs.FloatLaws.{and-left, and-right}
+use Rattle.lemmas.specs.Cases.{and-left, and-right, lt-or-le}
 use Rattle.npy.specs.declared.reader.Kind.{Kind}
 use Rattle.npy.specs.declared.reader.Head.{Head}
 use Rattle.npy.specs.declared.reader.Places.{Places}

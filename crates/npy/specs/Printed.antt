@@ -12,7 +12,7 @@ use lib.ListN.{length, getD, take, drop, replicate, length-drop, length-append, 
 use lib.Seq.{drop-cons, drop-drop, drop-append-seam, take-append-seam, getD-drop, getD-take, length-take-le, take-at}
 use lib.Dec.{leb, eqb}
 use borrow.Author.Tests.{le-leb, leb-true, eq-eqb, ne-eqb, eqb-true}
-use Rattle.float.specs.FloatLaws.{and-left, and-right}
+use Rattle.lemmas.specs.Cases.{and-left, and-right}
 use Rattle.npy.specs.Text.{begins, within, isKind, isDigit, isSpace, lead, endOf, decimal, kindFits, isNumber, f4, i2, kindOf, opening, middle, comma, closing, ending, kindEnd, rowsAt, rowsEnd, colsAt, colsEnd, feedAt, placesOf, frontSpelled, shapeSpelled, endSpelled, spelled}
 use Rattle.npy.specs.TextLaws.{lead-within, end-within, spelled-parts, number-size}
 use Rattle.npy.specs.Header.{lowFirst, magic, acceptedHead, accepted, textHead, textFits, textLength, headerW, widthOf, headerOf}

@@ -11,8 +11,7 @@ use native.Mathlib.Nat.{add-zero, pow-suc, pow-le-pow-right}
 use lib.ListN.{length, getD, take, drop, drop-of-length-le, length-drop}
 use lib.Seq.{drop-cons}
 use lib.Dec.{eqb, leb, ltb, lit<}
-use Rattle.float.specs.FloatLaws.{and-left, and-right}
-use Rattle.refusal.specs.Cases.{lt-or-le}
+use Rattle.lemmas.specs.Cases.{and-left, and-right, lt-or-le}
 use Rattle.npy.specs.declared.reader.Places.{Places}
 use Rattle.npy.specs.Text.{begins, isKind, isDigit, isSpace, lead, endOf, decimal, kindFits, isNumber, opening, middle, comma, closing, ending, kindEnd, rowsAt, rowsEnd, colsAt, colsEnd, feedAt, placesOf, frontSpelled, shapeSpelled, endSpelled, spelled}
 

@@ -12,7 +12,7 @@ use lib.Dec.{eqb, ltb, leb}
 use lib.Ieee as Ieee
 use lib.Ieee.{Float, nan, binary32}
 use borrow.Author.Tests.{le-leb, lt-leb, leb-true, leb-false, ltb-true, eqb-true}
-use Rattle.float.specs.FloatLaws.{and-left, and-right}
+use Rattle.lemmas.specs.Cases.{and-left, and-right}
 use Rattle.npy.specs.Header.{lowFirst}
 use Rattle.npy.specs.Fields.{byte-at}
 use Rattle.npy.specs.Digits.{hex-bytes}

@@ -10,10 +10,11 @@ use borrow.Author.Tests.{lt-ltb}
 use lib.Dec.{ltb}
 use lib.Ieee.{Float, nan, inf, fin, below, lt, le, eq, neg, isNan, ofBits}
 use lib.Ieee.Fits.{down-pos}
+use Rattle.lemmas.specs.Cases.{and-left, and-right}
 use Rattle.float.specs.F32 as F
 use Rattle.float.specs.F32.{_+f_, _-f_}
 use Rattle.float.specs.Float.{absF}
-use Rattle.float.specs.FloatLaws.{and-left, and-right, Within, clamp-within, lt-nan}
+use Rattle.float.specs.FloatLaws.{Within, clamp-within, lt-nan}
 use Rattle.refusal.specs.declared.Refusal.the-variants as Refusal
 use Rattle.filters.specs.SlewRate.{badLimit, slewStep, slewSetDt}
 use Rattle.rate_pid.specs.declared.RatePid.{RatePid}

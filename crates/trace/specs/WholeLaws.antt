@@ -13,8 +13,7 @@ use borrow.Author.Tests.{ltb-true, ltb-false, leb-true, leb-false, lt-ltb, le-le
 use Rattle.refusal.specs.declared.Refusal.{Refusal}
 use Rattle.refusal.specs.declared.Refusal.the-variants as Refusal
 use Rattle.refusal.specs.Refusal.{numberOf, passes}
-use Rattle.refusal.specs.Cases.{lt-or-le}
-use Rattle.float.specs.FloatLaws.{and-left, and-right}
+use Rattle.lemmas.specs.Cases.{and-left, and-right, lt-or-le}
 use Rattle.npy.specs.declared.reader.Kind.{Kind}
 use Rattle.npy.specs.declared.reader.Head.{Head}
 use Rattle.npy.specs.Header.{isCell, cellWidth, accepted, refusedHead, headerOf}

@@ -1,4 +1,4 @@
-use Rattle.refusal.specs.Cases.{first-fails, first-holds}
+use Rattle.lemmas.specs.Cases.{first-fails, first-holds}
 use Rattle.motor_lin.specs.MotorLin.{badMotor}
 use Rattle.motor_lin.proofs.MotorLin.bad.Statement.{statement}
 use Rattle.motor_lin.proofs.MotorLin.bad.Tie as tie

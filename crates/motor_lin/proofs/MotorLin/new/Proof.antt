@@ -1,4 +1,4 @@
-use Rattle.refusal.specs.Cases.{when-true, when-false}
+use Rattle.lemmas.specs.Cases.{when-true, when-false}
 use Rattle.motor_lin.specs.MotorLin.{newMotorLin, badMotor}
 use mathlib.Core.Path.{sym, ap, _∙_}
 use borrow.Author.Needs.{needs}

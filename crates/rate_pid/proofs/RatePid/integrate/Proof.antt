@@ -1,5 +1,5 @@
 use borrow.Author.Needs.{needs}
-use Rattle.refusal.specs.Cases.{when-false}
+use Rattle.lemmas.specs.Cases.{when-false}
 use Rattle.rate_pid.specs.RatePid.{integrated}
 use Rattle.rate_pid.proofs.Steps.{grows}
 use Rattle.rate_pid.proofs.RatePid.integrate.Statement.{statement}
