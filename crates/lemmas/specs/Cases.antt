@@ -19,6 +19,11 @@ pub of-both : {A : Type 0} (P : A → Type 0) (t : Bool) (a b : A) → P a → P
 of-both P true a b h g = h
 of-both P false a b h g = g
 
+-- the same, where each may go by what the test says
+pub of-both-cases : {A : Type 0} (P : A → Type 0) (t : Bool) (a b : A) → (t ≡ true → P a) → (t ≡ false → P b) → P (cond t a b)
+of-both-cases P true a b h g = h refl
+of-both-cases P false a b h g = g refl
+
 -- what is read of the one that is picked is picked of what is read of both
 pub read-picked : {A B : Type 0} (f : A → B) (t : Bool) (a b : A) → f (cond t a b) ≡ cond t (f a) (f b)
 read-picked f true a b = refl

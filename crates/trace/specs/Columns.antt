@@ -10,6 +10,8 @@ use lib.Ieee.{Float, nan}
 use lib.ListN.{length, getD, take, drop}
 use lib.Seq.{drop-drop, drop-append-add}
 use borrow.Author.Tests.{lt-ltb}
+use Rattle.lanes.specs.Runs.{answers, left, answers-length}
+use Rattle.lanes.specs.Lanes.{For, for, ofLane}
 use Rattle.refusal.specs.declared.Refusal.the-variants as Refusal
 use Rattle.refusal.specs.Refusal.{passes}
 use Rattle.rate_pid.specs.RatePid.{newRate}
@@ -24,19 +26,17 @@ use Rattle.bank.specs.declared.lane.Op.the-variants.{Update}
 use Rattle.bank.specs.declared.lane.Answer.{Answer}
 use Rattle.bank.specs.declared.Bank.{Bank}
 use Rattle.bank.specs.Lane.{plain}
-use Rattle.bank.specs.Bank.{freshBank, Eight, laneAt, bankStep}
-use Rattle.bank.specs.BankLaws.{fresh-eight, fresh-closed}
+use Rattle.bank.specs.Bank.{freshBank, bankStep}
 use Rattle.bank.specs.Single.{Single, none, one, newSingle, singleStep, singleRun, singleAfter}
-use Rattle.bank.specs.SingleLaws.{laneOf, Good}
-use Rattle.bank.specs.Runs.{For, for, run, after, ofLane}
-use Rattle.bank.specs.RunLaws.{single-run, apart}
-use Rattle.bank.specs.Rows.{nextLane, updateCalls, valuesOf}
-use Rattle.bank.specs.RowsLaws.{values-length}
-use Rattle.bank.specs.ColumnsLaws.{after-eight}
+use Rattle.bank.specs.Runs.{bankMachine, run, after}
+use Rattle.bank.specs.RunLaws.{Lies, lies-run, lies-after, fresh-lies}
+use Rattle.rows.specs.Rows.{nextLane, updateCalls, valuesOf}
+use Rattle.rows.specs.RowsLaws.{values-length}
 use Rattle.trace.specs.declared.course.Course.{Course}
 use Rattle.trace.specs.Turns.{inTurn, each, lane-of, each-length, each-at, lane-of-each}
 use Rattle.trace.specs.Trace.{openOf, openedBank, startOf, replayOf, rowWidth, rowCalls, rowLine, rowOn, nextRows}
-use Rattle.trace.specs.TraceLaws.{updateOf, calls-more, row-length, row-count, Whole, accepted-prints, started, rowsOf, Accepted, accepted-all}
+use Rattle.trace.specs.Taken.{updateOf, calls-more, row-length, row-count, CanTake, text-cut}
+use Rattle.trace.specs.TraceLaws.{started, rowsOf, accepted-lines, Accepted}
 
 -- ---- the calls of a file
 
@@ -60,7 +60,7 @@ things (x ∷ xs) = x .thing ∷ things xs
 
 -- a run that calls lane after lane answers lane after lane
 pub run-turn : (ops : List Op) (b : Bank) (lane : ℕ) → run b (inTurn lane ops) ≡ inTurn lane (things (run b (inTurn lane ops)))
-unfolding run inTurn things
+unfolding answers inTurn things
 run-turn [] b lane = refl
 run-turn (op ∷ ops) b lane =
     ap (λ (l : List (For Answer)). for lane (bankStep b lane op .answer) ∷ l) (run-turn ops (bankStep b lane op .bank) (suc lane))
@@ -76,11 +76,6 @@ unfolding things
 things-length [] = refl
 things-length (x ∷ xs) = ap suc (things-length xs)
 
-pub run-length : (b : Bank) (calls : List (For Op)) → length (run b calls) ≡ length calls
-unfolding run
-run-length b [] = refl
-run-length b (q ∷ qs) = ap suc (run-length (bankStep b (q .lane) (q .thing) .bank) qs)
-
 -- the one answer of a lane stands in its place
 pub answered-at : (b : Bank) (calls : List (For Op)) (ops : List Op) → calls ≡ inTurn 0 ops → (L : ℕ) (d : Answer) → L < length (run b calls)
     → ofLane L (run b calls) ≡ getD (things (run b calls)) L d ∷ []
@@ -90,24 +85,6 @@ answered-at b calls ops e L d h =
     ap (ofLane L) turn ∙ lane-of L (things (run b calls)) d (omega arith)
 
 -- ---- one controller
-
--- a controller lies in lane L of a bank
-pub record Lies (L : ℕ) (b : Bank) (c : Single) : Type 0 where
-  pub eight : Eight b
-  pub here : laneAt b L ≡ laneOf c
-  pub good : Good c
-
-pub fresh-lies : (L : ℕ) → L ≤ 7 → Lies L freshBank none
-fresh-lies L h = record { eight = fresh-eight; here = fresh-closed L h; good = tt }
-
--- after a run it has had the lane's calls
-pub lies-after : (L : ℕ) → L ≤ 7 → (calls : List (For Op)) (b : Bank) (c : Single) → Lies L b c → Lies L (after b calls) (singleAfter c (ofLane L calls))
-lies-after L h calls b c l =
-    record {
-      eight = after-eight calls b (l .eight);
-      here = apart L h calls b c (l .eight) (l .here) (l .good) .left;
-      good = single-run (ofLane L calls) c (l .good) .good;
-    }
 
 -- the values that it answers
 unfoldable pub column : Single → List Op → List Float
@@ -142,21 +119,21 @@ row-of-lane c s L h = ap (ofLane L) (row-turn c s) ∙ lane-of-each (updateOf (c
 -- what is printed for it is its controller's answer
 pub row-value : (c : Course) (s : List ℕ) (L : ℕ) (σ : Single) → L ≤ 7 → L < c .lanes → Lies L (c .bank) σ
     → getD (valuesOf (run (c .bank) (rowCalls c s))) L nan ≡ singleStep σ (laneUpdate (c .kind) L s) .answer .y
-unfolding singleRun
+unfolding answers
 row-value c s L σ h l lies =
     let b = c .bank in
     let op = laneUpdate (c .kind) L s in
     let d : Answer = plain Refusal.None in
-    let len : length (run b (rowCalls c s)) ≡ c .lanes = run-length b (rowCalls c s) ∙ row-count c s in
+    let len : length (run b (rowCalls c s)) ≡ c .lanes = answers-length bankMachine (rowCalls c s) b ∙ row-count c s in
     let told : ofLane L (run b (rowCalls c s)) ≡ getD (things (run b (rowCalls c s))) L d ∷ [] = answered-at b (rowCalls c s) _ (row-turn c s) L d (omega arith) in
-    let heard : ofLane L (run b (rowCalls c s)) ≡ singleStep σ op .answer ∷ [] = apart L h (rowCalls c s) b σ (lies .eight) (lies .here) (lies .good) .answers ∙ ap (singleRun σ) (row-of-lane c s L l) in
+    let heard : ofLane L (run b (rowCalls c s)) ≡ singleStep σ op .answer ∷ [] = lies-run L h (rowCalls c s) b σ lies ∙ ap (singleRun σ) (row-of-lane c s L l) in
     let same : getD (things (run b (rowCalls c s))) L d ≡ singleStep σ op .answer = cc in
     value-at (run b (rowCalls c s)) L d (omega arith) ∙ ap (λ (a : Answer). a .y) same
 
 -- and after it its controller is updated
 pub row-lies : (c : Course) (s : List ℕ) (L : ℕ) (σ : Single) → L ≤ 7 → L < c .lanes → Lies L (c .bank) σ
     → Lies L (after (c .bank) (rowCalls c s)) (singleStep σ (laneUpdate (c .kind) L s) .single)
-unfolding singleAfter
+unfolding left
 row-lies c s L σ h l lies =
     subst (λ (ops : List Op). Lies L (after (c .bank) (rowCalls c s)) (singleAfter σ ops)) (row-of-lane c s L l) (lies-after L h (rowCalls c s) (c .bank) σ lies)
 
@@ -224,7 +201,7 @@ unfolding cellAt
 setting-at s L j = let e : (L * 5 + j) * 4 ≡ L * 20 + j * 4 = omega arith in rw (drop-drop (j * 4) (L * 20) s, e)
 
 opened-single : (s : List ℕ) (L : ℕ) → singleAfter none (openOf (drop (L * 20) s) ∷ []) ≡ controllerAt s L
-unfolding singleAfter singleStep newSingle openOf controllerAt
+unfolding left singleStep newSingle openOf controllerAt
 opened-single s L =
     rw (← setting-at s L 0, ← setting-at s L 1, ← setting-at s L 2, ← setting-at s L 3, ← setting-at s L 4)
 
@@ -253,7 +230,7 @@ unfoldable pub printed : List ℕ → ℕ → ℕ → List ℕ
 printed s L r = take 8 (drop (r * (9 * lanesOf s) + 9 * L) (replayOf s))
 
 -- they are those of the r-th value of one controller that is made with the lane's settings and updated with the lane's cells
-pub column-theorem : (s : List ℕ) (m L r : ℕ) → passes (startOf s .refusal) ≡ true → Whole (startOf s .course) (rowsOf s) m → L < lanesOf s → r < m
+pub column-theorem : (s : List ℕ) (m L r : ℕ) → passes (startOf s .refusal) ≡ true → CanTake m (startOf s .course) (rowsOf s) → L < lanesOf s → r < m
     → printed s L r ≡ wordOf (getD (column (controllerAt (settingsOf s) L) (laneUpdates (cellKindOf s) (lanesOf s) L m (rowsOf s))) r nan)
 unfolding printed
 column-theorem s m L r e w l h =
@@ -261,7 +238,7 @@ column-theorem s m L r e w l h =
     let few : lanesOf s ≤ 8 = rw (g .lanes) (g .settings .few) in
     let own : L < headerOf s .rows = rw (g .lanes) at l in
     let lies : Lies L (startOf s .course .bank) (controllerAt (settingsOf s) L) = rw (g .bank) (opened-lies (headerOf s .rows) (settingsOf s) L (g .settings .few) own) in
-    rw (accepted-prints s m e w) (rows-word r m (startOf s .course) (rowsOf s) L (controllerAt (settingsOf s) L) _ h (omega arith) l lies)
+    rw (accepted-lines s m e w) (rows-word r m (startOf s .course) (rowsOf s) L (controllerAt (settingsOf s) L) _ h (omega arith) l lies)
 
 -- two files have the same lane L: as many lanes, cells of one kind, equal settings of lane L, and in the first n rows equal cells of it
 pub record SameLane (s t : List ℕ) (L n : ℕ) : Type 0 where
@@ -279,9 +256,9 @@ same-update : (s t : List ℕ) (L n r : ℕ) → SameLane s t L n → r < n → 
 unfolding updateAt
 same-update s t L n r e h = rw (e .cells r 0 h (omega arith), e .cells r 1 h (omega arith), e .cells r 2 h (omega arith))
 
--- then they print equal digits for it in each of these rows that both have whole, however the files end
+-- then they print equal digits for it in each of these rows that can be taken of both, however the files end
 pub same-column : (s t : List ℕ) (L n m k r : ℕ) → passes (startOf s .refusal) ≡ true → passes (startOf t .refusal) ≡ true
-    → Whole (startOf s .course) (rowsOf s) m → Whole (startOf t .course) (rowsOf t) k → L < lanesOf s → SameLane s t L n → r < n → r < m → r < k
+    → CanTake m (startOf s .course) (rowsOf s) → CanTake k (startOf t .course) (rowsOf t) → L < lanesOf s → SameLane s t L n → r < n → r < m → r < k
     → printed s L r ≡ printed t L r
 same-column s t L n m k r es et ws wt l e hn hm hk =
     column-theorem s m L r es ws l hm
@@ -313,4 +290,4 @@ same-column s t L n m k r es et ws wt l e hn hm hk =
 pub equal-columns : (s t : List ℕ) (L : ℕ) → Accepted s → Accepted t → startOf s .course .left ≡ startOf t .course .left → L < lanesOf s
     → SameLane s t L (startOf s .course .left) → (r : ℕ) → r < startOf s .course .left → printed s L r ≡ printed t L r
 equal-columns s t L a b same l e r h =
-    same-column s t L (startOf s .course .left) (startOf s .course .left) (startOf t .course .left) r (a .start) (b .start) (accepted-all s a) (accepted-all t b) l e h h (omega arith)
+    same-column s t L (startOf s .course .left) (startOf s .course .left) (startOf t .course .left) r (a .start) (b .start) (a .rows) (b .rows) l e h h (omega arith)

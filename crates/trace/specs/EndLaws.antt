@@ -1,14 +1,16 @@
 -- The end of a text: a line is written whole or not at all. Assumes nothing.
 use mathlib.Core.Path.{_≡_, refl, _∙_}
 use mathlib.Core.List.{List, [], _∷_, _++_}
+use mathlib.Core.Bool.{Bool, true, false}
 use Prim.Native.Nat.{ℕ, _+_, _/_, _%_, _≤_, _<_}
 use native.Mathlib.Numerals.{add-one}
+use native.Mathlib.Omega.{arith}
 use borrow.Author.Tests.{lt-ltb, le-ltb, le-leb, lt-leb}
 use lib.ListN.{length, getD, set, drop, drop-of-length-le}
 use lib.Seq.{sets, drop-cons}
 use Rattle.refusal.specs.declared.Refusal.{Refusal}
-use Rattle.refusal.specs.Refusal.{numberOf}
-use Rattle.trace.specs.Trace.{digits, refusedWord, refusedLine}
+use Rattle.refusal.specs.Refusal.{numberOf, passes}
+use Rattle.trace.specs.Trace.{digits, refusedWord, refusedLine, reasonText}
 use Rattle.trace.specs.Slices.{wrote, wroteCount}
 
 -- ---- a text written byte by byte
@@ -56,3 +58,14 @@ module _ (why : Refusal) (n : ℕ) (e : n ≡ numberOf why) (out : List ℕ) whe
   pub two-whole : (out′ : List ℕ) → 10 ≤ n → 11 ≤ length out → out′ ≡ sets out 0 refusedWord
       → (11 ≡ wroteCount out (refusedLine why)) × (set (set (set out′ 8 (n / 10 + 48)) 9 (n % 10 + 48)) 10 10 ≡ wrote out (refusedLine why))
   two-whole out′ h g e′ = rw (two-digits why n e h) (wrote-all out (refusedWord ++ ((n / 10 + 48) ∷ (n % 10 + 48) ∷ 10 ∷ [])) 11 _ refl g (rw e′))
+
+-- ---- the line that a refusal adds
+
+module _ (why : Refusal) (t : Bool) (e : t ≡ passes why) where
+  pub reason-none : t ≡ true → (out : List ℕ) → (0 ≡ wroteCount out (reasonText why)) × (out ≡ wrote out (reasonText why))
+  unfolding reasonText
+  reason-none h out = rw (← e, h) (wrote-all out [] 0 out refl (omega arith) refl)
+
+  pub reason-some : t ≡ false → reasonText why ≡ refusedLine why
+  unfolding reasonText
+  reason-some h = rw (← e, h)

@@ -1,10 +1,12 @@
 pub mod Turns
 pub mod Trace
+pub mod Taken
 pub mod TraceLaws
 pub mod Windows
 pub mod Columns
 pub mod StartLaws
 pub mod Slices
 pub mod RowsLaws
+pub mod MeasureLaws
 pub mod EndLaws
 pub mod WholeLaws

@@ -24,6 +24,7 @@ use Rattle.bank.specs.declared.lane.SlewLimit.the-variants.{Off}
 use Rattle.bank.specs.declared.Bank.{Bank}
 use Rattle.bank.specs.Bank.{freshBank, bankStep}
 use Rattle.bank.specs.Runs.{after}
+use Rattle.lanes.specs.Runs.{left}
 use Rattle.trace.specs.declared.course.Begun.{Begun}
 use Rattle.trace.specs.Turns.{inTurn, each}
 use Rattle.trace.specs.Trace.{isF4, settingsRefusal, openOf, openedBank, traceRefusal, refusedStart, unless, traceStart, startOf}
@@ -96,14 +97,14 @@ opens kp ki kd tau dt s i e1 e2 e3 e4 e5 = rw (e1, e2, e3, e4, e5, drop-drop 4 i
 module _ (s : List ℕ) where
   pub open-more : (k lane i : ℕ) (b : Bank) (op : Op) → lane < k → op ≡ openOf (drop i s)
       → after (bankStep b lane op .bank) (inTurn (lane + 1) (each openOf 20 (k - (lane + 1)) (drop (i + 20) s))) ≡ after b (inTurn lane (each openOf 20 (k - lane) (drop i s)))
-  unfolding inTurn each after
+  unfolding inTurn each left
   open-more k lane i b op h e =
       let a : k - lane ≡ suc (k - (lane + 1)) = omega arith in
       let l : lane + 1 ≡ suc lane = omega arith in
       rw (a, e, l, drop-drop 20 i s)
 
   pub open-done : (k lane i : ℕ) (b : Bank) → k ≤ lane → b ≡ after b (inTurn lane (each openOf 20 (k - lane) (drop i s)))
-  unfolding inTurn each after
+  unfolding inTurn each left
   open-done k lane i b h = let a : k - lane ≡ 0 = omega arith in rw a
 
   pub open-start : (k : ℕ) (b : Bank) → b ≡ freshBank → after b (inTurn 0 (each openOf 20 (k - 0) (drop 0 s))) ≡ openedBank k s

@@ -8,7 +8,7 @@ use lib.ListN.{length, getD, take, drop}
 use lib.Seq.{drop-drop}
 use borrow.Author.Tests.{eq-eqb, ne-eqb}
 use Rattle.npy.specs.HeaderLaws.{drop-take}
-use Rattle.bank.specs.Runs.{For, for, ofLane}
+use Rattle.lanes.specs.Lanes.{For, for, ofLane}
 
 -- things for a lane, the next lane, and so on
 unfoldable pub inTurn : {A : Type 0} → ℕ → List A → List (For A)

@@ -1,32 +1,35 @@
--- A whole file: how long its text is, what it ends with, and that it is the text of its rows and then of its refusal. And that a file is accepted exactly where nothing is refused. Assumes nothing.
+-- A whole file in memory: its lines, printed some rows at a time, and then the line of its refusal. And that a file is accepted exactly where
+-- nothing is refused. Assumes nothing.
 use mathlib.Core.Path.{_≡_, refl, sym, ap, _∙_, subst}
 use mathlib.Core.List.{List, [], _∷_, _++_, append-nil}
-use mathlib.Core.Bool.{Bool, true, false, cond, _&&_, true≢false}
+use mathlib.Core.Bool.{Bool, true, false, cond, true≢false}
 use mathlib.Core.Logic.{⊎-elim, inl, inr}
-use Prim.Native.Nat.{ℕ, suc, _+_, _-_, _*_, _/_, _≤_, _<_}
-use native.Mathlib.Nat.{mul-assoc, mul-comm, div-eq-sub-div, mul-le-mul}
+use Prim.Native.Nat.{ℕ, suc, _+_, _-_, _*_, _≤_, _<_}
+use native.Mathlib.Nat.{mul-comm, mul-le-mul, zero-add}
 use native.Mathlib.Omega.{arith}
-use lib.Dec.{ltb, leb}
+use lib.Dec.{leb}
 use lib.ListN.{length, set, take, drop, length-append, length-drop, take-append-drop, drop-of-length-le}
 use lib.Seq.{sets, length-sets, drop-drop, drop-set-add, take-set-le}
-use borrow.Author.Tests.{ltb-true, ltb-false, leb-true, leb-false, lt-ltb, le-leb, lt-leb, eq-eqb, ne-eqb}
+use borrow.Author.Tests.{le-leb, lt-leb, eq-eqb, ne-eqb}
+use Rattle.lemmas.specs.Cases.{lt-or-le}
+use Rattle.lemmas.specs.Lists.{sets-append}
 use Rattle.refusal.specs.declared.Refusal.{Refusal}
 use Rattle.refusal.specs.declared.Refusal.the-variants as Refusal
 use Rattle.refusal.specs.Refusal.{numberOf, passes}
-use Rattle.lemmas.specs.Cases.{and-left, and-right, lt-or-le}
-use Rattle.npy.specs.declared.reader.Kind.{Kind}
 use Rattle.npy.specs.declared.reader.Head.{Head}
-use Rattle.npy.specs.Header.{isCell, cellWidth, accepted, refusedHead, headerOf}
+use Rattle.npy.specs.Header.{accepted, refusedHead, headerOf}
 use Rattle.npy.specs.HeaderLaws.{to-end, refused-is}
 use Rattle.npy.specs.HeaderStart.{shape-small}
-use Rattle.npy.specs.Cell.{least}
 use Rattle.trace.specs.declared.course.Course.{Course}
 use Rattle.trace.specs.declared.course.Begun.{Begun}
 use Rattle.trace.specs.declared.course.Went.{Went}
-use Rattle.trace.specs.Trace.{startOf, rowWidth, rowLine, rowOn, nextRows, onRows, courseRefusal, endRefusal, refusedLine, reasonText, endText, courseText, replayOf, replayRefusal}
-use Rattle.trace.specs.Slices.{laned, rowsFor, rowsIn, wentOf, wrote, wroteCount, replayedOf}
-use Rattle.trace.specs.TraceLaws.{ends-cut, ends-rest, ends-none, Whole, whole-spent, whole-rows, refusal-cut, spent-refusal, wholeRows, whole-is, rowsOf, Accepted, accepted-all, accepted-whole, firstHead, secondAt, secondHead, started, start-within, row-length, rows-length, spent-text, row-cut, rows-cut, on-left, on-kind, on-lanes, on-width}
-use Rattle.trace.specs.RowsLaws.{room, sets-append, laned-parts, width-range}
+use Rattle.trace.specs.declared.course.Measured.{Measured}
+use Rattle.trace.specs.Trace.{startOf, rowWidth, rowLine, rowOn, nextRows, onRows, rowRefusal, restRefusal, courseRefusal, refusedLine, reasonText, courseLines, courseText, replayOf, replayRefusal}
+use Rattle.trace.specs.Slices.{rowsIn, wentOf, measuredOf, wrote, wroteCount, replayedOf}
+use Rattle.trace.specs.Taken.{CanTake, Spent, take-left, Whole, wholeRows, whole-is, row-taken, row-cut, rows-cut, spent-lines, spent-rest, spent-row, row-length, rows-length, on-left}
+use Rattle.trace.specs.TraceLaws.{rowsOf, Accepted, accepted-refusal, secondAt, started, start-within}
+use Rattle.trace.specs.RowsLaws.{Went-on, some-tried}
+use Rattle.trace.specs.MeasureLaws.{count-left, lines-length, went-here, on-here, place-here, there-here, refused-stops}
 use Rattle.trace.specs.EndLaws.{one-digit, two-digits}
 
 -- a header names fewer than 10⁹ rows; refused, none
@@ -41,77 +44,32 @@ few-rows s = go (accepted (headerOf s)) refl
 -- ---- what a start that is not refused is
 
 pub record Ready (b : Begun) (len : ℕ) : Type 0 where
-  pub lanes : laned (b .course .kind) (b .course .lanes) ≡ true
+  pub lanes : b .course .lanes ≤ 8
   pub few : b .course .left < 1000000000
   pub there : b .at ≤ len
-
-lanes-are : (kind : Kind) (k : ℕ) → 1 ≤ k → k ≤ 8 → isCell kind ≡ true → laned kind k ≡ true
-unfolding laned
-lanes-are kind k a b h = rw (le-leb 1 k a, le-leb k 8 b) h
 
 pub ready : (s : List ℕ) → passes (startOf s .refusal) ≡ true → Ready (startOf s) (length s)
 ready s e =
     let g = started s e in
     record {
-      lanes = rw (g .kind, g .lanes) (lanes-are (secondHead s .kind) (firstHead s .rows) (g .settings .some) (g .settings .few) (g .trace .1));
+      lanes = rw (g .lanes) (g .settings .few);
       few = rw (g .left) (few-rows (drop (secondAt s) s));
       there = start-within s g;
     }
 
--- ---- lengths
+-- ---- the loop that prints a trace's lines
 
-row-line-length : (c : Course) (s : List ℕ) → length (rowLine c s) ≡ c .lanes * 9
-row-line-length c s = row-length c s ∙ mul-comm 9 (c .lanes)
-
-pub next-length : (n : ℕ) (c : Course) (s : List ℕ) → length (nextRows n c s) ≡ n * (c .lanes * 9)
-next-length n c s = rows-length n c s ∙ ap (λ (m : ℕ). n * m) (mul-comm 9 (c .lanes))
-
--- ---- where no whole row is there any more
-
-pub over : (c : Course) (s : List ℕ) → (0 < c .left → length s < rowWidth c) → courseText c s ≡ endText (c .left) s
-over c s h = spent-text c s (⊎-elim (λ (l : 0 < c .left). inr (h l)) (λ (g : c .left ≤ 0). inl (omega arith)) (lt-or-le 0 (c .left)))
-
--- ---- the whole rows that are there
-
--- the text of a trace: that of its whole rows, and the line of what it is refused with
-module _ (c : Course) (s : List ℕ) (n : ℕ) (whole : Whole c s n) where
-  -- which refusal it is
-  refusal-here : courseRefusal c s ≡ endRefusal (c .left - n) (drop (n * rowWidth c) s)
-  refusal-here = refusal-cut n c s (whole .under) (whole .fits) ∙ spent-refusal (onRows n c s) (drop (n * rowWidth c) s) (whole-spent c s n whole) ∙ rw (on-left n c s)
-
-  pub text-parts : courseText c s ≡ nextRows n c s ++ reasonText (courseRefusal c s)
-  unfolding endText
-  text-parts = whole-rows c s n whole ∙ rw refusal-here
-
-  pub text-length : length (courseText c s) ≡ n * (c .lanes * 9) + length (reasonText (courseRefusal c s))
-  text-length = ap length text-parts ∙ length-append (nextRows n c s) (reasonText (courseRefusal c s)) ∙ rw (next-length n c s)
-
-  pub reason-cut : n < c .left → Refusal.Cut ≡ courseRefusal c s
-  reason-cut h = sym (refusal-here ∙ ends-cut (c .left - n) _ (omega arith))
-
-  pub reason-rest : c .left ≤ n → n * rowWidth c < length s → Refusal.Rest ≡ courseRefusal c s
-  reason-rest h g = sym (refusal-here ∙ ends-rest (c .left - n) _ (omega arith) (rw length-drop (omega arith)))
-
-  pub reason-none : c .left ≤ n → length s ≤ n * rowWidth c → Refusal.None ≡ courseRefusal c s
-  reason-none h g = sym (refusal-here ∙ ends-none (c .left - n) _ (omega arith) (rw length-drop (omega arith)))
-
--- ---- the loop that prints a trace
-
--- a trace that has rows, and room for its text and for the work on a row
-pub record Printable (c : Course) (width : ℕ) (s : List ℕ) (cells values out : ℕ) : Type 0 where
-  pub lanes : laned (c .kind) (c .lanes) ≡ true
-  pub wide : width ≡ rowWidth c
+-- room for the lines and for the work on a row
+pub record Printable (c : Course) (s : List ℕ) (cells values out : ℕ) : Type 0 where
   pub triples : 24 ≤ cells
   pub results : 8 ≤ values
-  pub fits : length (courseText c s) ≤ out
+  pub fits : length (courseLines c s) ≤ out
 
--- what is written so far, and then the text from here on, is the text of the whole
+-- what is written so far, and then the lines from here on, are the lines of the whole
 pub record Printing (s out₀ : List ℕ) (c₀ : Course) (out : List ℕ) (c : Course) (at o : ℕ) : Type 0 where
-  pub text : sets out o (courseText c (drop at s)) ≡ sets out₀ 0 (courseText c₀ s)
+  pub text : sets out o (courseLines c (drop at s)) ≡ sets out₀ 0 (courseLines c₀ s)
   pub long : length out ≡ length out₀
-  pub fits : o + length (courseText c (drop at s)) ≤ length out₀
-  pub lanes : laned (c .kind) (c .lanes) ≡ true
-  pub width : rowWidth c ≡ rowWidth c₀
+  pub fits : o + length (courseLines c (drop at s)) ≤ length out₀
   pub there : at ≤ length s
 
 -- a part of a slice that is written to from its start on
@@ -129,114 +87,69 @@ part-put vs ys out o e =
     let a : o + 0 ≡ o = omega arith in
     rw (z, append-nil ys, ys′) (rw a at (sets-part vs out o 0))
 
-least-some : (a b : ℕ) → 0 < a → 0 < b → 0 < least a b
-unfolding least
-least-some a b h g = go (ltb b a)
-  where
-    go : (t : Bool) → 0 < cond t b a
-    go true = g
-    go false = h
+next-length : (n : ℕ) (c : Course) (s : List ℕ) → length (nextRows n c s) ≡ n * (c .lanes * 9)
+next-length n c s = rows-length n c s ∙ ap (λ (m : ℕ). n * m) (mul-comm 9 (c .lanes))
 
-div-some : (a d : ℕ) → 0 < d → d ≤ a → 0 < a / d
-div-some a d h g = let e : a / d ≡ (a - d) / d + 1 = div-eq-sub-div h g in omega arith
+module _ (s out₀ : List ℕ) (c₀ : Course) where
+  pub print-start : length (courseLines c₀ s) ≤ length out₀ → Printing s out₀ c₀ out₀ c₀ 0 0
+  print-start h = record { text = refl; long = refl; fits = omega arith; there = omega arith }
 
--- a row is there, and room for it: so at least one is taken
-some-rows : (kind : Kind) (k left window cells values out : ℕ) → laned kind k ≡ true → 0 < left → 0 < k * 3 * cellWidth kind → k * 3 * cellWidth kind ≤ window
-    → 24 ≤ cells → 8 ≤ values → k * 9 ≤ out → 0 < rowsFor kind k left window cells values out
-unfolding rowsFor
-some-rows kind k left window cells values out t l w0 w a b c =
-    let p = laned-parts kind k t in
-    let p0 : 1 ≤ k = p .0 in
-    let p1 : k ≤ 8 = p .1 in
-    rw t (least-some left _ l (least-some (window / (k * 3 * cellWidth kind)) _ (div-some window (k * 3 * cellWidth kind) w0 w) (least-some (cells / (k * 3)) _ (div-some cells (k * 3) (omega arith) (omega arith)) (least-some (values / k) (out / (k * 9)) (div-some values k (omega arith) (omega arith)) (div-some out (k * 9) (omega arith) c)))))
+  module _ (out : List ℕ) (c : Course) (at o : ℕ) (p : Printing s out₀ c₀ out c at o) where
+    -- none is left
+    pub print-done : c .left ≤ 0 → out ≡ sets out₀ 0 (courseLines c₀ s)
+    print-done h = rw (spent-lines c (drop at s) (inl (omega arith))) at (p .text)
 
-row-bytes : (c : Course) (len : ℕ) → rowWidth c ≤ len → c .lanes * 3 * cellWidth (c .kind) ≤ len
-unfolding rowWidth
-row-bytes c len h = h
+    module _ (cells values : ℕ) (went : Went) (ys : List ℕ) (l : 0 < c .left)
+        (e : went ≡ wentOf (rowsIn c (length (take (length s - at) (drop at s))) cells values (length (take (length out - o) (drop o out)))) c (take (length s - at) (drop at s)))
+        (ey : ys ≡ sets (take (length out - o) (drop o out)) 0 (nextRows (went .rows) c (take (length s - at) (drop at s)))) where
+      here : Went-on (rowsIn c (length (drop at s)) cells values (length (take (length out - o) (drop o out)))) c (drop at s) went
+      here = went-here s c at cells values (length (take (length out - o) (drop o out))) went e
 
-rows-bytes : (c : Course) (n len : ℕ) → n * c .lanes * 3 * cellWidth (c .kind) ≤ len → n * rowWidth c ≤ len
-unfolding rowWidth
-rows-bytes c n len h = rw (← mul-assoc n (c .lanes * 3) (cellWidth (c .kind)), ← mul-assoc n (c .lanes) 3) h
+      -- the lines of the rows that were taken, in their place
+      put : take o out ++ (ys ++ drop (length out - o) (drop o out)) ≡ sets out o (nextRows (went .rows) c (drop at s))
+      put = part-put (nextRows (went .rows) c (drop at s)) ys out o (rw (to-end s at) at ey)
 
-module _ (s out₀ : List ℕ) (c₀ : Course) (width cells values : ℕ) (ok : Printable c₀ width s cells values (length out₀)) where
-  pub print-start : Printing s out₀ c₀ out₀ c₀ 0 0
-  print-start = record { text = refl; long = refl; fits = let h = ok .fits in omega arith; lanes = ok .lanes; width = refl; there = omega arith }
+      -- they are the last
+      last : courseLines c (drop at s) ≡ nextRows (went .rows) c (drop at s) → take o out ++ (ys ++ drop (length out - o) (drop o out)) ≡ sets out₀ 0 (courseLines c₀ s)
+      last h = put ∙ ap (sets out o) (sym h) ∙ p .text
 
-  -- n rows on
-  turned : (out : List ℕ) (c : Course) (at o n : ℕ) → Printing s out₀ c₀ out c at o → n ≤ c .left → n * rowWidth c ≤ length s - at
-      → Printing s out₀ c₀ (sets out o (nextRows n c (drop at s))) (onRows n c (drop at s)) (at + n * rowWidth c) (o + n * (c .lanes * 9))
-  turned out c at o n p h g =
-      let a = nextRows n c (drop at s) in
-      let b = courseText (onRows n c (drop at s)) (drop (at + n * rowWidth c) s) in
-      let al : length (nextRows n c (drop at s)) ≡ n * (c .lanes * 9) = next-length n c (drop at s) in
-      let g′ : n * rowWidth c ≤ length (drop at s) = rw length-drop g in
-      let cut : courseText c (drop at s) ≡ nextRows n c (drop at s) ++ courseText (onRows n c (drop at s)) (drop (at + n * rowWidth c) s) = rw drop-drop at (rows-cut n c (drop at s) h g′) in
-      let len : length (courseText c (drop at s)) ≡ n * (c .lanes * 9) + length b = ap length cut ∙ length-append a b ∙ rw al in
-      let f = p .fits in
-      let th = p .there in
-      record {
-        text = rw (← al) (sym (sets-append a b out o)) ∙ ap (sets out o) (sym cut) ∙ p .text;
-        long = length-sets out o a ∙ p .long;
-        fits = omega arith;
-        lanes = rw (on-kind n c (drop at s), on-lanes n c (drop at s)) (p .lanes);
-        width = on-width n c (drop at s) ∙ p .width;
-        there = omega arith;
-      }
+      -- the next row is refused
+      pub print-refused : (t : Bool) → t ≡ passes (went .refusal) → t ≡ false → take o out ++ (ys ++ drop (length out - o) (drop o out)) ≡ sets out₀ 0 (courseLines c₀ s)
+      print-refused t et f =
+          let stop = refused-stops s c at cells values (length (take (length out - o) (drop o out))) went e (sym et ∙ f) in
+          last (rows-cut (went .rows) c (drop at s) (here .taken) .0 ∙ rw (spent-lines _ _ (stop .0), append-nil))
 
-  -- a row is there, and room for it
-  some-taken : (out : List ℕ) (c : Course) (at o : ℕ) → Printing s out₀ c₀ out c at o → 0 < c .left → width ≤ length s - at → 0 < rowsIn c (length (drop at s)) cells values (length (drop o out))
-  some-taken out c at o p h g =
-      let ew : rowWidth c ≡ width = p .width ∙ sym (ok .wide) in
-      let ls : length (drop at s) ≡ length s - at = length-drop at s in
-      let lo : length (drop o out) ≡ length out - o = length-drop o out in
-      let w : rowWidth c ≤ length (drop at s) = omega arith in
-      let cut : length (courseText c (drop at s)) ≡ c .lanes * 9 + length (courseText (rowOn c (c .left - 1) (drop at s)) (drop (rowWidth c) (drop at s))) =
-      ap length (row-cut c (drop at s) h w) ∙ length-append (rowLine c (drop at s)) _ ∙ rw (row-line-length c (drop at s)) in
-      let f = p .fits in
-      let l = p .long in
-      some-rows (c .kind) (c .lanes) (c .left) (length (drop at s)) cells values (length (drop o out)) (p .lanes) h (width-range (c .kind) (c .lanes) (cellWidth (c .kind)) true (sym (p .lanes)) refl refl .0) (row-bytes c (length (drop at s)) w) (ok .triples) (ok .results) (omega arith)
+      -- none was tried, though there is room for the lines that are to come: so there is none
+      pub print-none : 24 ≤ cells → 8 ≤ values → (t : Bool) → t ≡ passes (went .refusal) → t ≡ true → went .rows ≡ 0 → take o out ++ (ys ++ drop (length out - o) (drop o out)) ≡ sets out₀ 0 (courseLines c₀ s)
+      unfolding nextRows
+      print-none x y t et f z = last (go (passes (rowRefusal c (drop at s))) refl ∙ rw z)
+        where
+          go : (b : Bool) → passes (rowRefusal c (drop at s)) ≡ b → courseLines c (drop at s) ≡ []
+          go false g = spent-lines c (drop at s) (inr g)
+          go true g =
+              let row = row-taken c (drop at s) g in
+              let line : length (courseLines c (drop at s)) ≡ c .lanes * 9 + length (courseLines (rowOn c (c .left - 1) (drop at s)) (drop (rowWidth c) (drop at s))) =
+              ap length (row-cut c (drop at s) l g .0) ∙ length-append (rowLine c (drop at s)) _ ∙ rw (row-length c (drop at s)) (omega arith) in
+              let lo : length (take (length out - o) (drop o out)) ≡ length out - o = rw (to-end out o) (length-drop o out) in
+              let some = some-tried c (length (drop at s)) cells values (length (take (length out - o) (drop o out))) l (row .form) (row .there) x y (omega (arith, p .fits, p .long)) in
+              let none : rowsIn c (length (drop at s)) cells values (length (take (length out - o) (drop o out))) ≡ 0 = sym (here .all (sym et ∙ f) .0) ∙ z in
+              absurd (omega arith)
 
-  -- the rows that a turn takes
-  pub turn : (out ys : List ℕ) (c : Course) (at o : ℕ) (went : Went) (t : Bool) → Printing s out₀ c₀ out c at o → t ≡ (ltb 0 (c .left) && leb width (length s - at)) → t ≡ true
-      → went ≡ wentOf (rowsIn c (length (take (length s - at) (drop at s))) cells values (length (take (length out - o) (drop o out)))) c (take (length s - at) (drop at s))
-      → ys ≡ sets (take (length out - o) (drop o out)) 0 (nextRows (went .rows) c (take (length s - at) (drop at s)))
-      → Printing s out₀ c₀ (take o out ++ (ys ++ drop (length out - o) (drop o out))) (went .course) (at + went .taken) (o + went .written) × (went .course .left < c .left)
-  unfolding wentOf
-  turn out ys c at o went t p et h ew ey =
-      let m : (ltb 0 (c .left) && leb width (length s - at)) ≡ true = sym et ∙ h in
-      let h0 : 0 < c .left = ltb-true 0 (c .left) (and-left (ltb 0 (c .left)) (leb width (length s - at)) m) in
-      let h1 : width ≤ length s - at = leb-true width (length s - at) (and-right (ltb 0 (c .left)) (leb width (length s - at)) m) in
-      let n = rowsIn c (length (drop at s)) cells values (length (drop o out)) in
-      let some : 0 < n = some-taken out c at o p h0 h1 in
-      let fits = room (c .kind) (c .lanes) (c .left) (length (drop at s)) cells values (length (drop o out)) n refl in
-      let ls : length (drop at s) ≡ length s - at = length-drop at s in
-      let by : n * rowWidth c ≤ length s - at = subst (λ (x : ℕ). n * rowWidth c ≤ x) ls (rows-bytes c n (length (drop at s)) (fits .bytes)) in
-      let ew′ : went ≡ wentOf n c (drop at s) = rw (to-end s at, to-end out o) at ew in
-      let ey′ : ys ≡ sets (take (length out - o) (drop o out)) 0 (nextRows n c (drop at s)) = ey ∙ rw (to-end s at, ew′) in
-      let put = part-put (nextRows n c (drop at s)) ys out o ey′ in
-      let left : onRows n c (drop at s) .left ≡ c .left - n = on-left n c (drop at s) in
-      (rw (ew′, put) (turned out c at o n p (fits .to-come) by), rw ew′ (omega arith))
-
-  -- no row is there any more: what is still to be written is the end
-  pub printed : (out ys : List ℕ) (c : Course) (at o : ℕ) (t : Bool) → Printing s out₀ c₀ out c at o → t ≡ (ltb 0 (c .left) && leb width (length s - at)) → t ≡ false
-      → ys ≡ wrote (take (length out - o) (drop o out)) (endText (c .left) (take (length s - at) (drop at s)))
-      → take o out ++ (ys ++ drop (length out - o) (drop o out)) ≡ sets out₀ 0 (courseText c₀ s)
-  unfolding wrote
-  printed out ys c at o t p et h ey =
-      let m : (ltb 0 (c .left) && leb width (length s - at)) ≡ false = sym et ∙ h in
-      let ls : length (drop at s) ≡ length s - at = length-drop at s in
-      let lo : length (drop o out) ≡ length out - o = length-drop o out in
-      let ew : rowWidth c ≡ width = p .width ∙ sym (ok .wide) in
-      let short : 0 < c .left → length (drop at s) < rowWidth c = λ g. rw (ls, ew) (leb-false width (length s - at) (sym (rw (lt-ltb 0 (c .left) g) at (sym m)))) in
-      let e : courseText c (drop at s) ≡ endText (c .left) (drop at s) = over c (drop at s) short in
-      let f = p .fits in
-      let l = p .long in
-      let ok : length (endText (c .left) (drop at s)) ≤ length (drop o out) = rw (← e) (omega arith) in
-      let ey′ : ys ≡ sets (take (length out - o) (drop o out)) 0 (courseText c (drop at s)) = ey ∙ rw (to-end s at, to-end out o, le-leb _ _ ok, e) in
-      part-put (courseText c (drop at s)) ys out o ey′ ∙ p .text
-
-pub printable-still : (c : Course) (width : ℕ) (s : List ℕ) (a b out a′ b′ : ℕ) → Printable c width s a b out → a′ ≡ a → b′ ≡ b → Printable c width s a′ b′ out
-printable-still c width s a b out a′ b′ p e f = rw (e, f) p
+      pub print-on : (t : Bool) → t ≡ passes (went .refusal) → t ≡ true → Printing s out₀ c₀ (take o out ++ (ys ++ drop (length out - o) (drop o out))) (went .course) (at + went .taken) (o + went .written)
+      print-on t et f =
+          let on = on-here s c at cells values (length (take (length out - o) (drop o out))) went e (sym et ∙ f) in
+          let place = place-here s c at cells values (length (take (length out - o) (drop o out))) went e in
+          let a = nextRows (went .rows) c (drop at s) in
+          let al : length (nextRows (went .rows) c (drop at s)) ≡ went .written = next-length (went .rows) c (drop at s) ∙ sym (here .lines) in
+          let b = courseLines (went .course) (drop (at + went .taken) s) in
+          let cut : courseLines c (drop at s) ≡ nextRows (went .rows) c (drop at s) ++ courseLines (went .course) (drop (at + went .taken) s) = rows-cut (went .rows) c (drop at s) (here .taken) .0 ∙ rw (on, place) in
+          let len : length (courseLines c (drop at s)) ≡ went .written + length (courseLines (went .course) (drop (at + went .taken) s)) = ap length cut ∙ length-append a b ∙ rw al in
+          record {
+            text = rw put (rw (← al) (sym (sets-append a b out o)) ∙ ap (sets out o) (sym cut) ∙ p .text);
+            long = rw put (length-sets out o a ∙ p .long);
+            fits = omega (arith, p .fits);
+            there = there-here s c at cells values (length (take (length out - o) (drop o out))) went e (p .there);
+          }
 
 -- ---- how long the line of a refusal is
 
@@ -268,38 +181,39 @@ module _ (why why′ : Refusal) (need : ℕ) (text out : List ℕ) (e : why ≡ 
       let g : length text ≤ length out = rw l at h in
       (rw (e, l, le-leb _ _ g), o ∙ rw (le-leb _ _ g))
 
-module _ (c : Course) (s : List ℕ) (w n : ℕ) (t : laned (c .kind) (c .lanes) ≡ true) (ew : w ≡ cellWidth (c .kind)) (en : n ≡ least (c .left) (length s / (c .lanes * 3 * w))) where
-  pub width-is : c .lanes * 3 * w ≡ rowWidth c
-  unfolding rowWidth
-  width-is = rw ew
+module _ (c : Course) (s : List ℕ) (m : Measured) (e : m ≡ measuredOf c s) where
+  pub refusal-is : m .refusal ≡ courseRefusal c s
+  unfolding measuredOf
+  refusal-is = rw e refl
 
-  pub width-some : (0 < c .lanes * 3 * w) × (c .lanes * 3 * w ≤ 96)
-  width-some = width-range (c .kind) (c .lanes) w true (sym t) refl ew
-
-  pub all-whole : Whole c s n
-  unfolding wholeRows
-  all-whole = rw (en, width-is) (whole-is c s (rw width-is at (width-some .0)))
-
-  pub used-fits : n * (c .lanes * 3 * w) ≤ length s
-  used-fits = rw width-is (all-whole .fits)
-
-  pub reason-is : (why : Refusal) → why ≡ cond (ltb n (c .left)) Refusal.Cut (cond (ltb (n * (c .lanes * 3 * w)) (length s)) Refusal.Rest Refusal.None) → why ≡ courseRefusal c s
-  reason-is why e = go (ltb n (c .left)) (ltb (n * (c .lanes * 3 * w)) (length s)) refl refl e
-    where
-      go : (p q : Bool) → ltb n (c .left) ≡ p → ltb (n * (c .lanes * 3 * w)) (length s) ≡ q → why ≡ cond p Refusal.Cut (cond q Refusal.Rest Refusal.None) → why ≡ courseRefusal c s
-      go true q ep eq h = h ∙ reason-cut c s n all-whole (ltb-true _ _ ep)
-      go false true ep eq h = h ∙ reason-rest c s n all-whole (ltb-false _ _ ep) (rw width-is at (ltb-true (n * (c .lanes * 3 * w)) (length s) eq))
-      go false false ep eq h = h ∙ reason-none c s n all-whole (ltb-false _ _ ep) (rw width-is at (ltb-false (n * (c .lanes * 3 * w)) (length s) eq))
-
-  pub need-is : (why : Refusal) (r : ℕ) → why ≡ courseRefusal c s → r ≡ length (reasonText why) → n * (c .lanes * 9) + r ≡ length (courseText c s)
-  need-is why r e er = rw (er, e) (sym (text-length c s n all-whole))
+  pub lines-are : m .rows * (c .lanes * 9) ≡ length (courseLines c s)
+  unfolding measuredOf
+  lines-are = rw e (sym (lines-length c s))
 
   -- far from the largest number
-  pub need-fits : c .left < 1000000000 → n * (c .lanes * 9) ≤ 72000000000
-  need-fits h =
-      let p1 : c .lanes ≤ 8 = laned-parts (c .kind) (c .lanes) t .1 in
-      let nl : n ≤ c .left = all-whole .under in
-      mul-le-mul {n₁ = n} {m₁ = c .lanes * 9} {n₂ = 1000000000} {m₂ = 72} (omega arith) (omega arith)
+  pub lines-fit : c .lanes ≤ 8 → c .left < 1000000000 → m .rows * (c .lanes * 9) ≤ 72000000000
+  unfolding measuredOf
+  lines-fit k h =
+      let few : m .rows ≤ c .left = rw e (count-left c s) in
+      mul-le-mul {n₁ = m .rows} {m₁ = c .lanes * 9} {n₂ = 1000000000} {m₂ = 72} (omega arith) (omega arith)
+
+  pub need-is : (r : ℕ) → r ≡ length (reasonText (m .refusal)) → m .rows * (c .lanes * 9) + r ≡ length (courseText c s)
+  unfolding courseText
+  need-is r er = rw (er, lines-are, refusal-is) (sym (length-append (courseLines c s) (reasonText (courseRefusal c s))))
+
+  -- the lines, and then the line of the refusal behind them
+  pub text-put : (out out₁ ys : List ℕ) (r : ℕ) → r ≡ length (reasonText (m .refusal)) → m .rows * (c .lanes * 9) + r ≤ length out → out₁ ≡ sets out 0 (courseLines c s)
+      → ys ≡ wrote (take (length out₁ - m .rows * (c .lanes * 9)) (drop (m .rows * (c .lanes * 9)) out₁)) (reasonText (m .refusal))
+      → take (m .rows * (c .lanes * 9)) out₁ ++ (ys ++ drop (length out₁ - m .rows * (c .lanes * 9)) (drop (m .rows * (c .lanes * 9)) out₁)) ≡ sets out 0 (courseText c s)
+  unfolding wrote courseText
+  text-put out out₁ ys r er h e1 ey =
+      let o = m .rows * (c .lanes * 9) in
+      let why = reasonText (m .refusal) in
+      let long : length out₁ ≡ length out = ap length e1 ∙ length-sets out 0 (courseLines c s) in
+      let part : length (take (length out₁ - m .rows * (c .lanes * 9)) (drop (m .rows * (c .lanes * 9)) out₁)) ≡ length out₁ - m .rows * (c .lanes * 9) = rw (to-end out₁ o) (length-drop o out₁) in
+      let fit : length (reasonText (m .refusal)) ≤ length (take (length out₁ - m .rows * (c .lanes * 9)) (drop (m .rows * (c .lanes * 9)) out₁)) = omega arith in
+      let ys′ : ys ≡ sets (take (length out₁ - m .rows * (c .lanes * 9)) (drop (m .rows * (c .lanes * 9)) out₁)) 0 (reasonText (m .refusal)) = ey ∙ rw (le-leb _ _ fit) in
+      part-put why ys out₁ o ys′ ∙ rw (e1, refusal-is, lines-are) (sym (rw (zero-add (length (courseLines c s))) at (sets-append (courseLines c s) (reasonText (courseRefusal c s)) out 0)))
 
 pub whole-refused : (s : List ℕ) (b : Begun) (t : Bool) → b ≡ startOf s → t ≡ passes (b .refusal) → t ≡ false → (replayRefusal s ≡ b .refusal) × (replayOf s ≡ refusedLine (b .refusal))
 unfolding replayRefusal replayOf
@@ -327,31 +241,37 @@ not-none : (why : Refusal) → passes why ≡ false → why ≡ Refusal.None →
 unfolding passes
 not-none why h e = true≢false (sym (ap passes e) ∙ h)
 
-pub accepted-unrefused : (s : List ℕ) → Accepted s → replayRefusal s ≡ Refusal.None
-unfolding replayRefusal
-accepted-unrefused s a =
-    let c = startOf s .course in
-    simp (a .start) (sym (reason-none c (rowsOf s) (c .left) (accepted-all s a) (omega arith) (omega (arith, a .rows))))
+no-rest : (s : List ℕ) → restRefusal s ≡ Refusal.None → s ≡ []
+unfolding restRefusal passes
+no-rest [] h = refl
+no-rest (x ∷ xs) h = absurd (not-none Refusal.Rest refl h)
+
+-- a trace of which nothing is refused has all of its rows, and nothing behind them
+all-taken : (c : Course) (s : List ℕ) (m : ℕ) → Whole c s m → courseRefusal c s ≡ Refusal.None → CanTake (c .left) c s × (drop (c .left * rowWidth c) s ≡ [])
+all-taken c s m w none =
+    let after : Course = onRows m c s in
+    let rest : List ℕ = drop (m * rowWidth c) s in
+    let still : courseRefusal (onRows m c s) (drop (m * rowWidth c) s) ≡ Refusal.None = sym (rows-cut m c s (w .taken) .1) ∙ none in
+    let few = take-left m c s (w .taken) in
+    let left = on-left m c s in
+    ⊎-elim
+    (λ (more : 0 < onRows m c s .left).
+    ⊎-elim
+    (λ (z : onRows m c s .left ≡ 0). absurd (omega arith))
+    (λ (no : passes (rowRefusal (onRows m c s) (drop (m * rowWidth c) s)) ≡ false). absurd (not-none _ no (sym (spent-row after rest more no) ∙ still)))
+    (w .spent))
+    (λ (none-left : onRows m c s .left ≤ 0).
+    let all : m ≡ c .left = omega arith in
+    let z : onRows m c s .left ≡ 0 = omega arith in
+    (subst (λ (n : ℕ). CanTake n c s) all (w .taken), subst (λ (n : ℕ). drop (n * rowWidth c) s ≡ []) all (no-rest rest (sym (spent-rest after rest z) ∙ still))))
+    (lt-or-le 0 (onRows m c s .left))
 
 pub unrefused-accepted : (s : List ℕ) → replayRefusal s ≡ Refusal.None → Accepted s
-unfolding replayRefusal passes
+unfolding replayRefusal
 unrefused-accepted s h = go (passes (startOf s .refusal)) refl
   where
-    c : Course
-    c = startOf s .course
-
-    all : (n : ℕ) → Whole c (rowsOf s) n → courseRefusal c (rowsOf s) ≡ Refusal.None → length (rowsOf s) ≡ c .left * rowWidth c
-    all n w none =
-        ⊎-elim
-        (λ (l : n < c .left). absurd (not-none Refusal.Cut refl (reason-cut c (rowsOf s) n w l ∙ none)))
-        (λ (g : c .left ≤ n).
-        let e : n ≡ c .left = omega (arith, w .under) in
-        ⊎-elim
-        (λ (l : n * rowWidth c < length (rowsOf s)). absurd (not-none Refusal.Rest refl (reason-rest c (rowsOf s) n w g l ∙ none)))
-        (λ (k : length (rowsOf s) ≤ n * rowWidth c). let m : length (rowsOf s) ≡ n * rowWidth c = omega (arith, w .fits) in m ∙ ap (λ (x : ℕ). x * rowWidth c) e)
-        (lt-or-le (n * rowWidth c) (length (rowsOf s))))
-        (lt-or-le n (c .left))
-
     go : (t : Bool) → passes (startOf s .refusal) ≡ t → Accepted s
     go false e = absurd (not-none (startOf s .refusal) e (simp e at h))
-    go true e = record { start = e; rows = all (wholeRows c (rowsOf s)) (accepted-whole s e) (simp e at h) }
+    go true e =
+        let all = all-taken (startOf s .course) (rowsOf s) _ (whole-is (startOf s .course) (rowsOf s)) (simp e at h) in
+        record { start = e; rows = all .0; rest = all .1 }

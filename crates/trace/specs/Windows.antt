@@ -3,13 +3,14 @@
 use mathlib.Core.Path.{_≡_, refl, sym, ap, _∙_}
 use mathlib.Core.List.{List, [], _∷_, _++_, append-assoc, append-nil}
 use mathlib.Core.Bool.{Bool, true, false, cond, _&&_}
-use mathlib.Core.Logic.{_⊎_, inl, ⊎-elim}
+use mathlib.Core.Logic.{_⊎_, inl, inr, ⊎-elim}
 use Prim.Native.Nat.{ℕ, zero, suc, _+_, _-_, _*_, _≤_, _<_, min}
 use native.Mathlib.Omega.{arith}
 use lib.Dec.{leb, eqb}
 use lib.ListN.{length, take, drop, length-take, length-append}
 use lib.Seq.{take-append-seam, drop-append-le}
-use borrow.Author.Tests.{leb-true}
+use borrow.Author.Tests.{leb-true, le-ltb}
+use Rattle.lemmas.specs.Cases.{lt-or-le}
 use Rattle.refusal.specs.declared.Refusal.{Refusal}
 use Rattle.refusal.specs.declared.Refusal.the-variants as Refusal
 use Rattle.refusal.specs.Refusal.{passes}
@@ -23,8 +24,10 @@ use Rattle.npy.specs.CellLaws.{cell-start, cells-take}
 use Rattle.bank.specs.declared.Bank.{Bank}
 use Rattle.trace.specs.declared.course.Course.{Course}
 use Rattle.trace.specs.Turns.{each-take}
-use Rattle.trace.specs.Trace.{isF4, settingsBytes, settingsRefusal, openOf, openedBank, refusedStart, unless, traceStart, startOf, replayOf, refusedLine, endText, rowWidth, rowCalls, rowLine, rowOn, nextRows, onRows, courseText}
-use Rattle.trace.specs.TraceLaws.{rows-on, width-on, rows-cut, end-rest, Spent, spent-text, whole-spent, wholeRows, whole-is, on-width, settings-parts, secondAt, started, start-within, some-bytes}
+use Rattle.trace.specs.Trace.{isF4, settingsBytes, settingsRefusal, openOf, openedBank, refusedStart, unless, traceStart, startOf, replayOf, refusedLine, reasonText, rowWidth, rowCalls, rowLine, rowOn, nextRows, onRows, formRefusal, cutRefusal, rowRefusal, restRefusal, courseRefusal, courseText}
+use Rattle.trace.specs.Taken.{CanTake, Spent, take-bytes, row-taken, text-cut, spent-lines, spent-rest, spent-row, spent-text, wholeRows, whole-is}
+use Rattle.trace.specs.RowsLaws.{row-short, row-formless}
+use Rattle.trace.specs.TraceLaws.{settings-parts, secondAt, started, start-within}
 
 -- ---- rows are read from their own bytes alone
 
@@ -32,27 +35,40 @@ calls-take : (c : Course) (n : ℕ) (s : List ℕ) → rowWidth c ≤ n → rowC
 unfolding rowCalls rowWidth
 calls-take c n s h = rw (cells-take (c .kind) (c .lanes * 3) n s h)
 
-pub rows-take : (n : ℕ) (c : Course) (m : ℕ) (s : List ℕ) → n * rowWidth c ≤ m
-    → (nextRows n c (take m s) ≡ nextRows n c s) × (onRows n c (take m s) ≡ onRows n c s)
-unfolding nextRows onRows rowLine rowOn
-rows-take zero c m s h = (refl, refl)
-rows-take (suc n) c m s h =
-    let b = rows-on n (rowWidth c) m h in
-    let r = rows-take n (rowOn c (c .left - 1) s) (m - rowWidth c) (drop (rowWidth c) s) (rw (width-on c (c .left - 1) s) (b .1)) in
-    (rw (calls-take c m s (b .0), drop-take (rowWidth c) m s, r .0), rw (calls-take c m s (b .0), drop-take (rowWidth c) m s, r .1))
+calls-ahead : (c : Course) (s t : List ℕ) → rowWidth c ≤ length s → rowCalls c (s ++ t) ≡ rowCalls c s
+calls-ahead c s t h = sym (calls-take c (length s) (s ++ t) h) ∙ rw (take-append-seam s t)
 
--- so what comes after them does not matter
-pub rows-ahead : (n : ℕ) (c : Course) (s t : List ℕ) → n * rowWidth c ≤ length s
-    → (nextRows n c (s ++ t) ≡ nextRows n c s) × (onRows n c (s ++ t) ≡ onRows n c s)
-rows-ahead n c s t h =
-    let r = rows-take n c (length s) (s ++ t) h in
-    (sym (r .0) ∙ rw (take-append-seam s t), sym (r .1) ∙ rw (take-append-seam s t))
+-- a row that is there whole is refused, or not, whatever comes after it
+pub row-ahead : (c : Course) (s t : List ℕ) → rowWidth c ≤ length s → rowRefusal c (s ++ t) ≡ rowRefusal c s
+unfolding rowRefusal cutRefusal
+row-ahead c s t h =
+    rw (calls-ahead c s t h, le-ltb (length s) (rowWidth c) h, le-ltb (length (s ++ t)) (rowWidth c) (rw length-append (omega arith)))
 
-held-cut : (n : ℕ) (c : Course) (held rest : List ℕ) → n ≤ c .left → n * rowWidth c ≤ length held
+-- so rows that can be taken can be taken whatever comes after them, and are the same
+pub record Ahead (n : ℕ) (c : Course) (s t : List ℕ) : Type 0 where
+  pub taken : CanTake n c (s ++ t)
+  pub lines : nextRows n c (s ++ t) ≡ nextRows n c s
+  pub course : onRows n c (s ++ t) ≡ onRows n c s
+
+pub rows-ahead : (n : ℕ) (c : Course) (s t : List ℕ) → CanTake n c s → Ahead n c s t
+unfolding CanTake nextRows onRows rowLine rowOn
+rows-ahead zero c s t h = record { taken = tt; lines = refl; course = refl }
+rows-ahead (suc n) c s t h =
+    let there = row-taken c s (h .1) .there in
+    let rest = rows-ahead n (rowOn c (c .left - 1) s) (drop (rowWidth c) s) t (h .2) in
+    let calls = calls-ahead c s t there in
+    let behind = drop-append-le (rowWidth c) s t there in
+    record {
+      taken = (h .0, ap passes (row-ahead c s t there) ∙ h .1, rw (calls, behind) (rest .taken));
+      lines = rw (calls, behind, rest .lines);
+      course = rw (calls, behind, rest .course);
+    }
+
+held-cut : (n : ℕ) (c : Course) (held rest : List ℕ) → CanTake n c held
     → courseText c (held ++ rest) ≡ nextRows n c held ++ courseText (onRows n c held) (drop (n * rowWidth c) held ++ rest)
-held-cut n c held rest hl h =
+held-cut n c held rest h =
     let ahead = rows-ahead n c held rest h in
-    rows-cut n c (held ++ rest) hl (rw length-append (omega arith)) ∙ rw (ahead .0, ahead .1, drop-append-le (n * rowWidth c) held rest h)
+    text-cut n c (held ++ rest) (ahead .taken) ∙ rw (ahead .lines, ahead .course, drop-append-le (n * rowWidth c) held rest (take-bytes n c held h))
 
 -- ---- a reader
 
@@ -68,16 +84,16 @@ joined (w ∷ ws) = w .bytes ++ joined ws
 
 -- what it prints: rows of what it kept and has read, keeping what is left over; and the ending
 unfoldable pub windowed : Course → List ℕ → List Window → List ℕ
-windowed c kept [] = endText (c .left) kept
+windowed c kept [] = reasonText (courseRefusal c kept)
 windowed c kept (w ∷ ws) =
     let held = kept ++ w .bytes in
     nextRows (w .rows) c held ++ windowed (onRows (w .rows) c held) (drop (w .rows * rowWidth c) held) ws
 
--- it may print any number of rows that are left and that it holds whole, as its room for them asks; at the end it has printed all of them
+-- it may print any number of rows that can be taken of what it holds, as its room for them asks; at the end it has printed all of them
 unfoldable pub Allowed : Course → List ℕ → List Window → Type 0
 Allowed c kept [] = Spent c kept
 Allowed c kept (w ∷ ws) =
-    (w .rows ≤ c .left) × (w .rows * rowWidth c ≤ length (kept ++ w .bytes))
+    CanTake (w .rows) c (kept ++ w .bytes)
     × Allowed (onRows (w .rows) c (kept ++ w .bytes)) (drop (w .rows * rowWidth c) (kept ++ w .bytes)) ws
 
 -- THE WINDOWS THEOREM: however the input is cut, and however many rows are printed at a time, the text is the same
@@ -86,13 +102,32 @@ unfolding windowed Allowed joined
 windows-theorem [] c kept a = rw (append-nil kept) (sym (spent-text c kept a))
 windows-theorem (w ∷ ws) c kept a =
     let held = kept ++ w .bytes in
-    let rest = windows-theorem ws (onRows (w .rows) c held) (drop (w .rows * rowWidth c) held) (a .2) in
-    rw (rest, ← append-assoc kept (w .bytes) (joined ws)) (sym (held-cut (w .rows) c held (joined ws) (a .0) (a .1)))
+    let rest = windows-theorem ws (onRows (w .rows) c held) (drop (w .rows * rowWidth c) held) (a .1) in
+    rw (rest, ← append-assoc kept (w .bytes) (joined ws)) (sym (held-cut (w .rows) c held (joined ws) (a .0)))
 
--- a reader need not read to the end: one byte after the last row is known to be refused
+refused-ahead : (c : Course) (kept more : List ℕ) → (rowRefusal c kept ≡ Refusal.Cut → ⊥) → rowRefusal c (kept ++ more) ≡ rowRefusal c kept
+refused-ahead c kept more other = go (passes (formRefusal (c .kind) (c .lanes))) refl
+  where
+    go : (t : Bool) → passes (formRefusal (c .kind) (c .lanes)) ≡ t → rowRefusal c (kept ++ more) ≡ rowRefusal c kept
+    go false e = row-formless c (kept ++ more) e .0 ∙ sym (row-formless c kept e .0)
+    go true e = ⊎-elim (λ (g : length kept < rowWidth c). absurd (other (row-short c kept e g))) (λ (g : rowWidth c ≤ length kept). row-ahead c kept more g) (lt-or-le (length kept) (rowWidth c))
+
+-- a reader need not read to the end: what the next row is refused with, unless it is that it is cut off, is known where the row is held
+pub refused-known : (c : Course) (kept more : List ℕ) → 0 < c .left → passes (rowRefusal c kept) ≡ false → (rowRefusal c kept ≡ Refusal.Cut → ⊥) → courseText c (kept ++ more) ≡ refusedLine (rowRefusal c kept)
+unfolding courseText reasonText
+refused-known c kept more l h other =
+    let same = refused-ahead c kept more other in
+    let stop : passes (rowRefusal c (kept ++ more)) ≡ false = ap passes same ∙ h in
+    rw (spent-lines c (kept ++ more) (inr stop), spent-row c (kept ++ more) l stop, same, h)
+
+-- and one byte after the last row is known to be refused
 pub rest-known : (c : Course) (kept more : List ℕ) → c .left ≡ 0 → 0 < length kept → courseText c (kept ++ more) ≡ refusedLine Refusal.Rest
-rest-known c kept more e h =
-    spent-text c (kept ++ more) (inl e) ∙ end-rest (c .left) (kept ++ more) (omega arith) (rw length-append (omega arith))
+unfolding courseText reasonText passes restRefusal
+rest-known c kept more e h = rw (spent-lines c (kept ++ more) (inl e), spent-rest c (kept ++ more) e, rest-some (kept ++ more) (rw length-append (omega arith)))
+  where
+    rest-some : (s : List ℕ) → 0 < length s → restRefusal s ≡ Refusal.Rest
+    rest-some [] h = absurd (omega arith)
+    rest-some (x ∷ s) h = refl
 
 -- a reader that prints all the rows it holds, each time
 unfoldable pub atOnce : Course → List ℕ → List (List ℕ) → List Window
@@ -102,14 +137,14 @@ atOnce c kept (bytes ∷ more) =
     let n = wholeRows c held in
     record { bytes = bytes; rows = n } ∷ atOnce (onRows n c held) (drop (n * rowWidth c) held) more
 
-pub at-once-allowed : (parts : List (List ℕ)) (c : Course) (kept : List ℕ) → 0 < rowWidth c → (parts ≡ [] → Spent c kept) → Allowed c kept (atOnce c kept parts)
+pub at-once-allowed : (parts : List (List ℕ)) (c : Course) (kept : List ℕ) → (parts ≡ [] → Spent c kept) → Allowed c kept (atOnce c kept parts)
 unfolding atOnce Allowed
-at-once-allowed [] c kept h e = e refl
-at-once-allowed (bytes ∷ more) c kept h e =
+at-once-allowed [] c kept e = e refl
+at-once-allowed (bytes ∷ more) c kept e =
     let held = kept ++ bytes in
     let n = wholeRows c held in
-    let w = whole-is c held h in
-    (w .under, w .fits, at-once-allowed more (onRows n c held) (drop (n * rowWidth c) held) (rw (on-width n c held) h) (λ _. whole-spent c held n w))
+    let w = whole-is c held in
+    (w .taken, at-once-allowed more (onRows n c held) (drop (n * rowWidth c) held) (λ _. w .spent))
 
 -- all that it reads
 unfoldable pub allOf : List (List ℕ) → List ℕ
@@ -231,7 +266,7 @@ plainly-theorem first parts enough =
     let same : joined (plainly first parts) ≡ allOf parts = at-once-joined ([] ∷ parts) (startOf first .course) (drop (startOf first .at) first) in
     streamed-theorem first (plainly first parts) (rw same enough)
     (λ (e : passes (startOf first .refusal) ≡ true).
-    at-once-allowed ([] ∷ parts) (startOf first .course) (drop (startOf first .at) first) (some-bytes first (started first e)) (λ (z : [] ∷ parts ≡ []). absurd (nothing z)))
+    at-once-allowed ([] ∷ parts) (startOf first .course) (drop (startOf first .at) first) (λ (z : [] ∷ parts ≡ []). absurd (nothing z)))
     ∙ ap (λ (l : List ℕ). replayOf (first ++ l)) same
   where
     nothing : _≡_ {A = List (List ℕ)} ([] ∷ parts) [] → ⊥

@@ -18,13 +18,20 @@ pub struct Begun {
     pub at: usize,
 }
 
-// What a call of `rows` did: the trace after the rows that it took, how many rows these were, how many bytes of the window they had, and
-// how many bytes of text it wrote.
+// What a call of `rows` did: what the first refused row was refused with, the trace after the rows that it took, how many rows these were, how
+// many bytes of the window they had, and how many bytes of text it wrote.
 pub struct Went {
+    pub refusal: Refusal,
     pub course: Course,
     pub rows: usize,
     pub taken: usize,
     pub written: usize,
+}
+
+// What a trace comes to: what it is refused with, and how many rows come before that.
+pub struct Measured {
+    pub refusal: Refusal,
+    pub rows: usize,
 }
 
 // What a whole file comes to: what it is refused with, how many bytes its text has, and whether the text was written.

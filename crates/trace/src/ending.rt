@@ -1,11 +1,10 @@
-// The end: the line for a refusal.
+// The line for a refusal.
 ghost use mathlib.Core.Path.{_≡_};
 ghost use Prim.Native.Nat.{_+_, _≤_};
 ghost use lib.ListN.{length};
 ghost use lib.Seq.{sets};
-ghost use Rattle.trace.specs.Trace.{refusedLine, endText};
+ghost use Rattle.trace.specs.Trace.{refusedLine, reasonText};
 ghost use Rattle.trace.specs.Slices.{wrote, wroteCount};
-use crate::course::Course;
 use refusal::Refusal;
 
 // The bytes of a text, from a place on.
@@ -47,16 +46,12 @@ pub fn refused_line(why: Refusal, out: &mut [u8]) -> usize
     11
 }
 
-// What is printed after the last whole row, given the bytes that are left and are no whole row: 15 where rows are still to come, 16 where
-// there are bytes after the last, else nothing. Answers how many bytes it wrote, and writes all of them or none.
-pub fn end(course: Course, rest: &[u8], out: &mut [u8]) -> usize
-    ensures { λ r. ⌜ (r ≡ wroteCount (now (out .entry)) (endText (course .left) (now (rest .entry)))) × (now (out .exit) ≡ wrote (now (out .entry)) (endText (course .left) (now (rest .entry)))) ⌝ }
+// The line that a refusal adds: none where nothing is refused. Answers how many bytes it wrote, and writes all of them or none.
+pub(crate) fn reason_line(why: Refusal, out: &mut [u8]) -> usize
+    ensures { λ r. ⌜ (r ≡ wroteCount (now (out .entry)) (reasonText why)) × (now (out .exit) ≡ wrote (now (out .entry)) (reasonText why)) ⌝ }
 {
-    if 0 < course.left {
-        return refused_line(Refusal::Cut, out);
+    if why.passes() {
+        return 0;
     }
-    if 0 < rest.len() {
-        return refused_line(Refusal::Rest, out);
-    }
-    0
+    refused_line(why, out)
 }

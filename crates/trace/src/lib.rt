@@ -2,6 +2,7 @@
 mod course;
 mod ending;
 mod going;
+mod measure;
 mod opening;
 mod whole;
 
@@ -9,9 +10,9 @@ pub use course::Begun;
 pub use course::Course;
 pub use course::Replayed;
 pub use course::Went;
-pub use ending::end;
 pub use ending::refused_line;
 pub use going::rows;
+pub use measure::end;
 pub use opening::enough;
 pub use opening::start;
 pub use whole::replay;

@@ -1,22 +1,20 @@
 // A whole file in memory, and its text.
 ghost use mathlib.Core.Path.{_≡_};
-ghost use Prim.Native.Nat.{_*_, _≤_, _<_};
-ghost use mathlib.Core.Bool.{true, false, cond, _&&_};
-ghost use lib.Dec.{ltb, leb};
+ghost use Prim.Native.Nat.{_≤_, _<_};
+ghost use mathlib.Core.Bool.{false};
 ghost use lib.ListN.{length};
 ghost use lib.Seq.{sets};
-ghost use Rattle.trace.specs.Trace.{refusedLine, reasonText, rowWidth, courseRefusal, courseText, replayOf, replayRefusal};
-ghost use Rattle.trace.specs.Slices.{laned, replayedOf, wrote};
+ghost use Rattle.trace.specs.Trace.{refusedLine, reasonText, courseRefusal, courseLines, courseText, replayOf, replayRefusal};
+ghost use Rattle.trace.specs.Slices.{replayedOf, wrote};
 ghost use Rattle.trace.specs.WholeLaws.{Printable};
-ghost use Rattle.refusal.specs.declared.Refusal.the-variants as Refusal;
 ghost use Rattle.refusal.specs.Refusal.{passes};
 use crate::course::Course;
 use crate::course::Replayed;
-use crate::ending::end;
+use crate::ending::reason_line;
 use crate::ending::refused_line;
 use crate::going::rows;
+use crate::measure::measured;
 use crate::opening::start;
-use npy::least;
 use refusal::Refusal;
 
 // How many bytes the line of a refusal has.
@@ -33,76 +31,50 @@ fn reason_length(why: Refusal) -> usize
     11
 }
 
-// Whether a whole row is there.
-fn more(left: usize, width: usize, len: usize) -> bool
-    ensures { λ r. ⌜ r ≡ (ltb 0 left && leb width len) ⌝ }
-{
-    if left < 1 {
-        return false;
-    }
-    width <= len
-}
-
-// The text of a trace that has rows, which `out` has room for. `cells` and `values` have room for one row at least.
-fn print(
-    course: Course,
-    width: usize,
-    trace: &[u8],
-    cells: &mut [f32],
-    values: &mut [f32],
-    out: &mut [u8],
-)
-    requires { ⌜ Printable course width (now trace) (length (now cells)) (length (now values)) (length (now out)) ⌝ }
-    ensures { λ _. ⌜ now (out .exit) ≡ sets (now (out .entry)) 0 (courseText course (now (trace .entry))) ⌝ }
+// The lines of a trace, which `out` has room for. `cells` and `values` are lent for the work only, and have room for a row.
+fn print(course: Course, trace: &[u8], cells: &mut [f32], values: &mut [f32], out: &mut [u8])
+    requires { ⌜ Printable course (now trace) (length (now cells)) (length (now values)) (length (now out)) ⌝ }
+    ensures { λ _. ⌜ now (out .exit) ≡ sets (now (out .entry)) 0 (courseLines course (now (trace .entry))) ⌝ }
 {
     let mut at = 0usize;
     let mut o = 0usize;
     let mut going = course;
-    while more(going.left, width, trace.len() - at) {
+    while 0 < going.left {
         let went = rows(going, &trace[at..], cells, values, &mut out[o..]);
+        let why = went.refusal;
+        if !why.passes() {
+            return;
+        }
+        if went.rows == 0 {
+            return;
+        }
         going = went.course;
         at += went.taken;
         o += went.written;
     }
-    end(going, &trace[at..], &mut out[o..]);
 }
 
 // The same, with the room for the work: 64 rows of eight lanes at once.
-fn print_all(course: Course, width: usize, trace: &[u8], out: &mut [u8])
-    requires { ⌜ (laned (course .kind) (course .lanes) ≡ true) × (width ≡ rowWidth course) × (length (courseText course (now trace)) ≤ length (now out)) ⌝ }
-    ensures { λ _. ⌜ now (out .exit) ≡ sets (now (out .entry)) 0 (courseText course (now (trace .entry))) ⌝ }
+fn print_all(course: Course, trace: &[u8], out: &mut [u8])
+    requires { ⌜ length (courseLines course (now trace)) ≤ length (now out) ⌝ }
+    ensures { λ _. ⌜ now (out .exit) ≡ sets (now (out .entry)) 0 (courseLines course (now (trace .entry))) ⌝ }
 {
     let mut cells = [0.0f32; 1536];
     let mut values = [0.0f32; 512];
-    print(course, width, trace, &mut cells, &mut values, out);
+    print(course, trace, &mut cells, &mut values, out);
 }
 
-// What a trace is refused with, of whose rows to come n are there whole, `used` bytes of so many.
-fn reason(left: usize, n: usize, used: usize, len: usize) -> Refusal
-    ensures { λ r. ⌜ r ≡ cond (ltb n left) Refusal.Cut (cond (ltb used len) Refusal.Rest Refusal.None) ⌝ }
-{
-    if n < left {
-        return Refusal::Cut;
-    }
-    if used < len {
-        return Refusal::Rest;
-    }
-    Refusal::None
-}
-
-// A trace that has rows: its text where `out` has room for the whole of it, else nothing.
+// A trace that has rows: its text where `out` has room for the whole of it, else nothing. It is gone through twice, since how long the text is
+// must be known first.
 fn replay_trace(course: Course, trace: &[u8], out: &mut [u8]) -> Replayed
-    requires { ⌜ (laned (course .kind) (course .lanes) ≡ true) × (course .left < 1000000000) ⌝ }
+    requires { ⌜ (course .lanes ≤ 8) × (course .left < 1000000000) ⌝ }
     ensures { λ r. ⌜ (r ≡ replayedOf (courseRefusal course (now (trace .entry))) (courseText course (now (trace .entry))) (now (out .entry)))
         × (now (out .exit) ≡ wrote (now (out .entry)) (courseText course (now (trace .entry)))) ⌝ }
 {
-    let kind = course.kind;
-    let k = course.lanes;
-    let left = course.left;
-    let width = k * 3 * kind.width();
-    let n = least(left, trace.len() / width);
-    let refusal = reason(left, n, n * width, trace.len());
-    let need = n * (k * 9) + reason_length(refusal);
+    let is = measured(course, trace);
+    let refusal = is.refusal;
+    let lines = is.rows * (course.lanes * 9);
+    let need = lines + reason_length(refusal);
     if out.len() < need {
         return Replayed {
             refusal,
@@ -110,7 +82,8 @@ fn replay_trace(course: Course, trace: &[u8], out: &mut [u8]) -> Replayed
             whole: false,
         };
     }
-    print_all(course, width, trace, out);
+    print_all(course, trace, out);
+    reason_line(refusal, &mut out[lines..]);
     Replayed {
         refusal,
         need,

@@ -1,90 +1,87 @@
-use denote.Ref.{now}
-use Rattle.trace.specs.RowsLaws.{laned-parts}
-use Rattle.trace.specs.WholeLaws.{width-is, width-some, used-fits, reason-is, need-is, need-fits, replayed-short, replayed-whole}
-use mathlib.Core.Path.{refl, sym}
+use Rattle.trace.specs.WholeLaws.{refusal-is, lines-are, lines-fit, need-is, text-put, replayed-short, replayed-whole}
+use mathlib.Core.Path.{_≡_, sym, subst}
+use Prim.Native.Nat.{ℕ, _≤_}
 use native.Mathlib.Omega.{arith}
+use lib.ListN.{length}
 use borrow.Author.Needs.{needs}
 use Rattle.trace.proofs.whole.replay_trace.Statement.{statement}
 use Rattle.trace.proofs.whole.replay_trace.Tie as tie
 
-mul-width : tie.Need-mul-width
-mul-width c = omega (arith, laned-parts _ _ (c .before .before .pre .0) .1)
+measured-requires : tie.Need-measured-requires
+measured-requires c κs = search needs
 
-width-requires : tie.Need-width-requires
-width-requires c κs = search needs
+mul-lines : tie.Need-mul-lines
+mul-lines c = search needs
 
-mul-width-2 : tie.Need-mul-width-2
-mul-width-2 c = omega (arith, width-some (c .before .before .before .args .course) (now (c .before .before .before .args .trace)) (c .width .result) _ (c .before .before .before .pre .0) (c .width .ensures) refl .1)
-
-div-least : tie.Need-div-least
-div-least c = width-some (c .before .before .before .args .course) (now (c .before .before .before .args .trace)) (c .width .result) _ (c .before .before .before .pre .0) (c .width .ensures) refl .0
-
-least-requires : tie.Need-least-requires
-least-requires c κs = search needs
-
-mul-reason : tie.Need-mul-reason
-mul-reason c = omega (arith, used-fits (c .before .before .before .before .args .course) (now (c .before .before .before .before .args .trace)) _ _ (c .before .before .before .before .pre .0) (c .before .width .ensures) (c .least .ensures))
-
-reason-requires : tie.Need-reason-requires
-reason-requires c κs = search needs
-
-mul-need : tie.Need-mul-need
-mul-need c = omega (arith, laned-parts _ _ (c .before .before .before .before .before .pre .0) .1)
-
-mul-need-2 : tie.Need-mul-need-2
-mul-need-2 c = omega (arith, need-fits (c .before .before .before .before .before .args .course) (now (c .before .before .before .before .before .args .trace)) _ _ (c .before .before .before .before .before .pre .0) (c .before .before .width .ensures) (c .before .least .ensures) (c .before .before .before .before .before .pre .1))
+mul-lines-2 : tie.Need-mul-lines-2
+mul-lines-2 c =
+    let measured = c .before .before in
+    let from = measured .before .before .before in
+    omega (arith, lines-fit (from .args .course) (from .args .trace .now) _ (measured .measured .ensures) (from .pre .0) (from .pre .1))
 
 reason-length-requires : tie.Need-reason-length-requires
 reason-length-requires c κs = search needs
 
 add-need : tie.Need-add-need
-add-need c = omega (arith, need-fits (c .before .before .before .before .before .before .args .course) (now (c .before .before .before .before .before .before .args .trace)) _ _ (c .before .before .before .before .before .before .pre .0) (c .before .before .before .width .ensures) (c .before .before .least .ensures) (c .before .before .before .before .before .before .pre .1), c .reason-length .ensures .1)
+add-need c =
+    let measured = c .before .before .before in
+    let from = measured .before .before .before in
+    omega (arith, lines-fit (from .args .course) (from .args .trace .now) _ (measured .measured .ensures) (from .pre .0) (from .pre .1), c .reason-length .ensures .1)
 
 returns : tie.Need-returns
 returns c =
-    let from = c .before .before .before .before .before .before .before in
-    let w = c .before .before .before .before .width .ensures in
-    let n = c .before .before .before .least .ensures in
-    let why = reason-is (from .args .course) (now (from .args .trace)) _ _ (from .pre .0) w n _ (c .before .before .reason .ensures) in
-    replayed-short _ _ _ _ _ why (need-is (from .args .course) (now (from .args .trace)) _ _ (from .pre .0) w n _ _ why (c .before .reason-length .ensures .0)) (c .if1 .taken)
+    let long = c .before in
+    let measured = long .before .before .before in
+    let from = measured .before .before .before in
+    replayed-short _ _ _ _ _ (refusal-is (from .args .course) (from .args .trace .now) _ (measured .measured .ensures)) (need-is (from .args .course) (from .args .trace .now) _ (measured .measured .ensures) _ (long .reason-length .ensures .0)) (c .if1 .taken)
 
 print-all-requires : tie.Need-print-all-requires
 print-all-requires c κs =
-    let from = c .before .before .before .before .before .before .before .before in
-    let w = c .before .before .before .before .before .width .ensures in
-    let n = c .before .before .before .before .least .ensures in
-    let why = reason-is (from .args .course) (now (from .args .trace)) _ _ (from .pre .0) w n _ (c .before .before .before .reason .ensures) in
-    let need = need-is (from .args .course) (now (from .args .trace)) _ _ (from .pre .0) w n _ _ why (c .before .before .reason-length .ensures .0) in
-    (from .pre .0, width-is (from .args .course) (now (from .args .trace)) _ _ (from .pre .0) w n, rw (sym need) (c .before .if1 .left))
+    let first = c .before in
+    let measured = first .before .before .before .before in
+    let from = measured .before .before .before in
+    subst (λ (n : ℕ). n ≤ length (from .args .out .now)) (lines-are (from .args .course) (from .args .trace .now) _ (measured .measured .ensures)) (omega (arith, first .if1 .left))
+
+sub-reason-line : tie.Need-sub-reason-line
+sub-reason-line c = search needs
+
+part-reason-line-start : tie.Need-part-reason-line-start
+part-reason-line-start c = search needs
+
+part-reason-line-end : tie.Need-part-reason-line-end
+part-reason-line-end c = search needs
+
+reason-line-requires : tie.Need-reason-line-requires
+reason-line-requires c κs = search needs
 
 same-length : tie.Need-same-length
 same-length c = search needs
 
 returns-2 : tie.Need-returns-2
 returns-2 c =
-    let from = c .before .before .before .before .before .before .before .before .before .before .before in
-    let w = c .before .before .before .before .before .before .before .before .width .ensures in
-    let n = c .before .before .before .before .before .before .before .least .ensures in
-    let why = reason-is (from .args .course) (now (from .args .trace)) _ _ (from .pre .0) w n _ (c .before .before .before .before .before .before .reason .ensures) in
-    let need = need-is (from .args .course) (now (from .args .trace)) _ _ (from .pre .0) w n _ _ why (c .before .before .before .before .before .reason-length .ensures .0) in
-    replayed-whole _ _ _ _ _ why need _ (c .before .before .before .before .if1 .left) (c .before .before .print-all .ensures)
+    let reason = c .before .before in
+    let printed = reason .before .before .before .before in
+    let first = printed .before .before in
+    let long = first .before in
+    let measured = long .before .before .before in
+    let from = measured .before .before .before in
+    replayed-whole _ _ _ _ _ (refusal-is (from .args .course) (from .args .trace .now) _ (measured .measured .ensures)) (need-is (from .args .course) (from .args .trace .now) _ (measured .measured .ensures) _ (long .reason-length .ensures .0)) _ (first .if1 .left)
+    (text-put (from .args .course) (from .args .trace .now) _ (measured .measured .ensures) (from .args .out .now) _ _ _ (long .reason-length .ensures .0) (first .if1 .left) (printed .print-all .ensures) (reason .reason-line .ensures .1))
 
 pub replay-trace-spec : {M : Type 1} → statement M
 replay-trace-spec =
     tie.close
     (tie.spec
-    mul-width
-    width-requires
-    mul-width-2
-    div-least
-    least-requires
-    mul-reason
-    reason-requires
-    mul-need
-    mul-need-2
+    measured-requires
+    mul-lines
+    mul-lines-2
     reason-length-requires
     add-need
     returns
     print-all-requires
+    sub-reason-line
+    part-reason-line-start
+    part-reason-line-end
+    reason-line-requires
     same-length
     returns-2)
