@@ -1,6 +1,6 @@
 // A run of rows of eight lanes for C and Rust to link: the benchmarks call it.
 ghost use mathlib.Core.Path.{_≡_};
-ghost use Rattle.bank.specs.Rows.{rowsOut};
+ghost use Rattle.rows.specs.Rows.{rowsOut};
 ghost use Rattle.linked_rows.specs.Eight.{opened, eightOf};
 use bank::Bank;
 use bank::SlewLimit;
@@ -37,5 +37,5 @@ pub extern "C" fn plumradek_rows(settings: &[f32], cells: &[f32], out: &mut [f32
     ensures { λ _. ⌜ now (out .exit) ≡ rowsOut (eightOf (now (settings .entry))) 8 (now (cells .entry)) (now (out .entry)) ⌝ }
 {
     let bank = eight(settings);
-    bank.update_rows(8, cells, out);
+    rows::update_rows(bank, 8, cells, out);
 }

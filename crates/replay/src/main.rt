@@ -5,6 +5,7 @@ ghost use lib.ListN.{length};
 use libc::STDERR_FILENO;
 use libc::STDIN_FILENO;
 use libc::STDOUT_FILENO;
+use refusal::Refusal;
 use trace::Begun;
 use trace::Course;
 
@@ -136,6 +137,17 @@ fn refill(course: Course, kept: usize, input: &mut [u8], out: &mut [u8]) -> Stre
     }
 }
 
+// A refused row: the lines before it, and then its refusal's.
+fn refused(course: Course, why: Refusal, written: usize, out: &mut [u8]) -> Stream {
+    if write(out, written, STDOUT_FILENO) {
+        let n = trace::refused_line(why, out);
+        last(out, n);
+        return stopped(course);
+    }
+    say(b"write failed\n");
+    stopped(course)
+}
+
 // As many rows as can be taken, or, where there are none, the next read.
 fn turn(
     s: Stream,
@@ -154,6 +166,10 @@ fn turn(
     }
     let went = trace::rows(s.course, &input[from..to], cells, values, out);
     let course = went.course;
+    let why = went.refusal;
+    if !why.passes() {
+        return refused(course, why, went.written, out);
+    }
     if went.rows == 0 {
         let kept = to_front(input, from, to);
         return refill(course, kept, input, out);

@@ -4,6 +4,7 @@ pub mod Taken
 pub mod TraceLaws
 pub mod Windows
 pub mod Columns
+pub mod Started
 pub mod StartLaws
 pub mod Slices
 pub mod RowsLaws
