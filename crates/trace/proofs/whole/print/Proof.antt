@@ -140,8 +140,12 @@ add-o c =
     let first = went .before .before .before .before .before in
     let at = first .before .before in
     let from = at .before .before .before .before .before in
-    omega (arith, (print-on (from .args .trace .now) (from .args .out .now) (from .args .course) (at .loop .out) (at .loop .going) (at .loop .at) (at .loop .o) (at .loop .inv .0)
-    (length (at .loop .cells)) (length (at .loop .values)) _ _ (first .if1 .taken) (went .rows .ensures .0) (went .rows .ensures .3) _ (passed .passes .ensures) (not-false _ (second .if2 .left))) .fits, from .good .1 .1 .1 .1 .0 .0)
+    omega (
+      arith,
+      (print-on (from .args .trace .now) (from .args .out .now) (from .args .course) (at .loop .out) (at .loop .going) (at .loop .at) (at .loop .o) (at .loop .inv .0)
+          (length (at .loop .cells)) (length (at .loop .values)) _ _ (first .if1 .taken) (went .rows .ensures .0) (went .rows .ensures .3) _ (passed .passes .ensures) (not-false _ (second .if2 .left))) .fits,
+      from .good .1 .1 .1 .1 .0 .0,
+    )
 
 loop-less : tie.Need-loop-less Inv-loop μ-loop
 loop-less c =
@@ -160,9 +164,12 @@ loop-again c =
     let went = passed .before .before .before .before .before .before .before in
     let first = went .before .before .before .before .before in
     let at = first .before .before in
-    let from = at .before .before .before .before .before in
-    (print-on (from .args .trace .now) (from .args .out .now) (from .args .course) (at .loop .out) (at .loop .going) (at .loop .at) (at .loop .o) (at .loop .inv .0)
-    (length (at .loop .cells)) (length (at .loop .values)) _ _ (first .if1 .taken) (went .rows .ensures .0) (went .rows .ensures .3) _ (passed .passes .ensures) (not-false _ (second .if2 .left)), as-long-still (at .loop .cells) _ (rowCells _ _ _) (went .rows .ensures .1) ∙ at .loop .inv .1, as-long-still (at .loop .values) _ (rowValues _ _ _) (went .rows .ensures .2) ∙ at .loop .inv .2)
+    let from = at .before .before .before .before .before in (
+      print-on (from .args .trace .now) (from .args .out .now) (from .args .course) (at .loop .out) (at .loop .going) (at .loop .at) (at .loop .o) (at .loop .inv .0)
+          (length (at .loop .cells)) (length (at .loop .values)) _ _ (first .if1 .taken) (went .rows .ensures .0) (went .rows .ensures .3) _ (passed .passes .ensures) (not-false _ (second .if2 .left)),
+      as-long-still (at .loop .cells) _ (rowCells _ _ _) (went .rows .ensures .1) ∙ at .loop .inv .1,
+      as-long-still (at .loop .values) _ (rowValues _ _ _) (went .rows .ensures .2) ∙ at .loop .inv .2,
+    )
 
 same-length-7 : tie.Need-same-length-7 Inv-loop μ-loop
 same-length-7 c =
