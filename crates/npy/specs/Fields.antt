@@ -2,13 +2,11 @@
 -- nothing.
 use mathlib.Core.Path.{_≡_, refl, sym, ap, ap₂, _∙_}
 use mathlib.Core.List.{List, [], _∷_}
-use Prim.Native.Nat.{ℕ, zero, suc, _+_, _-_, _*_, _/_, _%_, _^_, _≤_, _<_}
-use native.Mathlib.Nat.{add-comm, mul-comm, mod-lt, lt-of-lt-of-le, le-add-right, zero-div, div-div-eq-div-mul}
+use Prim.Native.Nat.{ℕ, _+_, _-_, _*_, _/_, _%_, _^_, _≤_, _<_}
+use native.Mathlib.Nat.{add-comm, mul-comm, mod-lt, lt-of-lt-of-le, le-add-right}
 use native.Mathlib.Omega.{arith}
 use lib.Bits.{bitAnd, and-block, and-mask, and-high}
-use lib.ListN.{getD}
 use lib.Pow.{pow-pos, pow-mono, pow-add, shl-shr, shr-lt, shr-mod, ones-lt}
-use Rattle.npy.specs.Header.{lowFirst}
 
 -- of each number of a list something, in fields of k bits
 unfoldable pub fields : ℕ → (ℕ → ℕ) → List ℕ → ℕ
@@ -86,14 +84,3 @@ halved h ps b =
     ∙ ap₂ (λ (x y : ℕ). x + y) (shl-shr (fields k (λ p. p / 2 ^ h) ps) h) (fields-mul k (2 ^ (h + h)) (λ p. p % 2 ^ h) ps)
     ∙ fields-add k (λ p. p / 2 ^ h) (λ p. p % 2 ^ h * 2 ^ (h + h)) ps
     ∙ halves-fields h ps
-
--- ---- a byte of a number
-
-pub byte-at : (l : List ℕ) (i : ℕ) → Below 256 l → lowFirst l / 2 ^ (8 * i) % 256 ≡ getD l i 0
-unfolding lowFirst
-byte-at [] i h = rw (zero-div (2 ^ (8 * i)))
-byte-at (b ∷ l) zero h = let l : b < 256 = h .0 in omega arith
-byte-at (b ∷ l) (suc i) h =
-    let p : 2 ^ (8 * suc i) ≡ 256 * 2 ^ (8 * i) = ap (λ (n : ℕ). 2 ^ n) (omega arith) ∙ pow-add 2 8 (8 * i) in
-    let q : (b + 256 * lowFirst l) / 256 ≡ lowFirst l = let s : b < 256 = h .0 in omega arith in
-    rw (p, ← div-div-eq-div-mul (b + 256 * lowFirst l) 256 (2 ^ (8 * i)), q) (byte-at l i (h .1))

@@ -3,7 +3,7 @@ use Prim.Native.Nat.{ℕ, zero, suc, _+_, _-_, _*_, _/_, _%_}
 use mathlib.Core.List.{List, [], _∷_, _++_}
 use mathlib.Core.Bool.{Bool, cond, _&&_}
 use lib.Dec.{eqb, ltb, leb}
-use lib.ListN.{length, take, drop}
+use lib.ListN.{length, set, take, drop}
 use lib.Seq.{sets}
 use lib.Ieee as Ieee
 use lib.Ieee.{Float, binary32}
@@ -30,20 +30,15 @@ unfoldable pub lineOf : List Float → List ℕ
 lineOf [] = []
 lineOf (x ∷ xs) = wordOf x ++ (afterWord xs ∷ lineOf xs)
 
--- what stands after a word where `left` words of its line are to come
-unfoldable pub separator : ℕ → ℕ
-separator zero = 10
-separator (suc left) = 32
+-- words with the same byte after each
+unfoldable pub wordsOf : ℕ → List Float → List ℕ
+wordsOf after [] = []
+wordsOf after (x ∷ xs) = wordOf x ++ (after ∷ wordsOf after xs)
 
--- and how many are to come after the next word, where `more` come after the first of a line
-unfoldable pub toCome : ℕ → ℕ → ℕ
-toCome more zero = more
-toCome more (suc left) = left
-
--- words in lines, the first of which has `left` words after its first
-unfoldable pub wordsOf : ℕ → ℕ → List Float → List ℕ
-wordsOf more left [] = []
-wordsOf more left (x ∷ xs) = wordOf x ++ (separator left ∷ wordsOf more (toCome more left) xs)
+-- a line feed as the last byte of each of n lines of w bytes, from a place on
+unfoldable pub endLines : ℕ → ℕ → ℕ → List ℕ → List ℕ
+endLines zero w at out = out
+endLines (suc n) w at out = endLines n w (at + w) (set out (at + w - 1) 10)
 
 -- n words, 9 bytes each, fit from a place on
 unfoldable pub lineFits : ℕ → ℕ → ℕ → Bool
