@@ -1,18 +1,20 @@
 // Makes the calls of docs/CALLS.md, each by a line of text, one answer a line.
 mod line;
 
+use libc::STDERR_FILENO;
 use libc::STDIN_FILENO;
 use libc::STDOUT_FILENO;
 use told::places;
 use told::text;
 
 // What is kept from byte to byte and from read to read: how many bytes of a line have come, whether it is longer than a
-// line may be, how many bytes of answers wait to be written, and whether all writes went well.
+// line may be, how many bytes of answers wait to be written, and whether it goes on: no read and no write failed, and the
+// input has not ended.
 struct Place {
     kept: usize,
     long: bool,
     wait: usize,
-    ok: bool,
+    going: bool,
 }
 
 // The longest line.
@@ -21,25 +23,43 @@ const LINE: usize = 2000;
 // Answers are written out before fewer bytes than this are left for the next, which is more than the longest answer.
 const ROOM: usize = 1024;
 
+// There is no exit status by which a program could tell that a read or a write failed: it says so on standard error.
+fn say(words: &[u8]) {
+    io::write_all(STDERR_FILENO, words);
+}
+
+fn stopped(p: Place) -> Place {
+    Place {
+        kept: p.kept,
+        long: p.long,
+        wait: p.wait,
+        going: false,
+    }
+}
+
 // Writes the answers that wait.
 fn write(out: &[u8], wait: usize) -> bool {
     if out.len() < wait {
         return false;
     }
-    io::write_all(STDOUT_FILENO, &out[..wait])
+    if io::write_all(STDOUT_FILENO, &out[..wait]) {
+        return true;
+    }
+    say(b"calls: write failed\n");
+    false
 }
 
 // A write that failed is not forgotten by a later one.
 fn flush(p: Place, out: &[u8]) -> Place {
-    if !p.ok {
+    if !p.going {
         return p;
     }
-    let ok = write(out, p.wait);
+    let going = write(out, p.wait);
     Place {
         kept: p.kept,
         long: p.long,
         wait: 0,
-        ok,
+        going,
     }
 }
 
@@ -69,7 +89,7 @@ fn end_line(p: Place, line: &[u8], states: &mut [u32], out: &mut [u8]) -> Place 
         kept: 0,
         long: false,
         wait,
-        ok: p.ok,
+        going: p.going,
     };
     if has_room(out, wait) {
         return next;
@@ -87,7 +107,7 @@ fn take_byte(p: Place, b: u8, line: &mut [u8], states: &mut [u32], out: &mut [u8
             kept: p.kept,
             long: true,
             wait: p.wait,
-            ok: p.ok,
+            going: p.going,
         };
     }
     let kept = text::put(line, p.kept, b);
@@ -95,7 +115,7 @@ fn take_byte(p: Place, b: u8, line: &mut [u8], states: &mut [u32], out: &mut [u8
         kept,
         long: p.long,
         wait: p.wait,
-        ok: p.ok,
+        going: p.going,
     }
 }
 
@@ -109,16 +129,22 @@ fn take_bytes(
 ) -> Place {
     let mut q = p;
     let mut i = 0;
-    while i < input.len() && q.ok {
+    while i < input.len() && q.going {
         q = take_byte(q, input[i], line, states, out);
         i += 1;
     }
     q
 }
 
-// One read and the answers to the lines that it ended. At the end of the input a line that was begun counts as ended.
+// One read and the answers to the lines that it ended. At the end of the input a line that was begun counts as ended; a
+// failed read is no end, and such a line is not answered.
 fn turn(p: Place, input: &mut [u8], line: &mut [u8], states: &mut [u32], out: &mut [u8]) -> Place {
-    let n = io::count(libc::read(STDIN_FILENO, input), input);
+    let got = libc::read(STDIN_FILENO, input);
+    if got < 0 {
+        say(b"calls: read failed\n");
+        return stopped(p);
+    }
+    let n = io::count(got, input);
     if n == 0 {
         return last(p, line, states, out);
     }
@@ -127,12 +153,10 @@ fn turn(p: Place, input: &mut [u8], line: &mut [u8], states: &mut [u32], out: &m
 }
 
 fn last(p: Place, line: &mut [u8], states: &mut [u32], out: &mut [u8]) -> Place {
-    let mut q = p;
     if 0 < p.kept {
-        q = flush(end_line(p, line, states, out), out);
+        return stopped(flush(end_line(p, line, states, out), out));
     }
-    q.ok = false;
-    q
+    stopped(p)
 }
 
 // A proved loop has to end, and nothing says that the input does: so the turns are counted down, from a number that no run
@@ -142,10 +166,10 @@ fn run(input: &mut [u8], line: &mut [u8], states: &mut [u32], out: &mut [u8]) {
         kept: 0,
         long: false,
         wait: 0,
-        ok: true,
+        going: true,
     };
     let mut turns = u64::MAX;
-    while turns > 0 && p.ok {
+    while turns > 0 && p.going {
         p = turn(p, input, line, states, out);
         turns -= 1;
     }

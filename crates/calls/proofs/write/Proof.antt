@@ -16,5 +16,23 @@ write-all-requires c κs = search needs
 returns-2 : tie.Need-returns-2
 returns-2 c = search needs
 
+slice-aggregate-say : tie.Need-slice-aggregate-say
+slice-aggregate-say c = search needs
+
+say-requires : tie.Need-say-requires
+say-requires c κs = search needs
+
+returns-3 : tie.Need-returns-3
+returns-3 c = search needs
+
 pub write-spec : {M : Type 1} → statement M
-write-spec = tie.close (tie.spec returns slice-aggregate-write-all write-all-requires returns-2)
+write-spec =
+    tie.close
+    (tie.spec
+    returns
+    slice-aggregate-write-all
+    write-all-requires
+    returns-2
+    slice-aggregate-say
+    say-requires
+    returns-3)
