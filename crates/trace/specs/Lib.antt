@@ -5,6 +5,7 @@ pub mod TraceLaws
 pub mod Windows
 pub mod Columns
 pub mod Started
+pub mod HandBuilt
 pub mod StartLaws
 pub mod Slices
 pub mod RowsLaws
