@@ -1,4 +1,4 @@
-// A run of rows of eight lanes for C and Rust to link: the benchmarks call it.
+// Runs of rows of 1, 2, 4 and 8 lanes for C and Rust to link: the benchmarks call them.
 ghost use mathlib.Core.Path.{_≡_};
 ghost use Rattle.rows.specs.Rows.{rowsOut};
 ghost use Rattle.linked_rows.specs.Eight.{opened, eightOf};
@@ -31,11 +31,38 @@ pub fn eight(s: &[f32]) -> Bank
     opened(s, b6, 7)
 }
 
-// Eight lanes of the same settings, updated row by row.
-#[no_mangle]
-pub extern "C" fn plumradek_rows(settings: &[f32], cells: &[f32], out: &mut [f32])
-    ensures { λ _. ⌜ now (out .exit) ≡ rowsOut (eightOf (now (settings .entry))) 8 (now (cells .entry)) (now (out .entry)) ⌝ }
+// Lanes 0 to k - 1 of eight of the same settings, updated row by row.
+fn rows_of(k: usize, settings: &[f32], cells: &[f32], out: &mut [f32])
+    ensures { λ _. ⌜ now (out .exit) ≡ rowsOut (eightOf (now (settings .entry))) k (now (cells .entry)) (now (out .entry)) ⌝ }
 {
     let bank = eight(settings);
-    rows::update_rows(bank, 8, cells, out);
+    rows::update_rows(bank, k, cells, out);
+}
+
+#[no_mangle]
+pub extern "C" fn plumradek_rows_1(settings: &[f32], cells: &[f32], out: &mut [f32])
+    ensures { λ _. ⌜ now (out .exit) ≡ rowsOut (eightOf (now (settings .entry))) 1 (now (cells .entry)) (now (out .entry)) ⌝ }
+{
+    rows_of(1, settings, cells, out);
+}
+
+#[no_mangle]
+pub extern "C" fn plumradek_rows_2(settings: &[f32], cells: &[f32], out: &mut [f32])
+    ensures { λ _. ⌜ now (out .exit) ≡ rowsOut (eightOf (now (settings .entry))) 2 (now (cells .entry)) (now (out .entry)) ⌝ }
+{
+    rows_of(2, settings, cells, out);
+}
+
+#[no_mangle]
+pub extern "C" fn plumradek_rows_4(settings: &[f32], cells: &[f32], out: &mut [f32])
+    ensures { λ _. ⌜ now (out .exit) ≡ rowsOut (eightOf (now (settings .entry))) 4 (now (cells .entry)) (now (out .entry)) ⌝ }
+{
+    rows_of(4, settings, cells, out);
+}
+
+#[no_mangle]
+pub extern "C" fn plumradek_rows_8(settings: &[f32], cells: &[f32], out: &mut [f32])
+    ensures { λ _. ⌜ now (out .exit) ≡ rowsOut (eightOf (now (settings .entry))) 8 (now (cells .entry)) (now (out .entry)) ⌝ }
+{
+    rows_of(8, settings, cells, out);
 }

@@ -1,6 +1,6 @@
 use borrow.Author.Needs.{needs}
-use Rattle.linked_rows.proofs.plumradek_rows.Statement.{statement}
-use Rattle.linked_rows.proofs.plumradek_rows.Tie as tie
+use Rattle.linked_rows.proofs.rows_of.Statement.{statement}
+use Rattle.linked_rows.proofs.rows_of.Tie as tie
 
 eight-requires : tie.Need-eight-requires
 eight-requires c κs = search needs
@@ -14,5 +14,5 @@ same-length c = search needs
 returns : tie.Need-returns
 returns c = cc
 
-pub plumradek-rows-spec : {M : Type 1} → statement M
-plumradek-rows-spec = tie.close (tie.spec eight-requires update-rows-requires same-length returns)
+pub rows-of-spec : {M : Type 1} → statement M
+rows-of-spec = tie.close (tie.spec eight-requires update-rows-requires same-length returns)
