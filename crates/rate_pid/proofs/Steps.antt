@@ -1,7 +1,7 @@
 -- What the callees ensure, put together into what the caller ensures. Assumes nothing.
-use mathlib.Core.Path.{_≡_, sym}
-use mathlib.Core.Bool.{Bool, true, false}
-use lib.Ieee.{Float, lt}
+use mathlib.Core.Path.{_≡_, refl, sym, _∙_}
+use mathlib.Core.Bool.{Bool, true, false, cond, _&&_, false≢true}
+use lib.Ieee.{Float, lt, ofBits, neg}
 use Rattle.float.specs.F32 as F
 use Rattle.float.specs.F32.{_+f_, _-f_, _*f_, _/f_}
 use Rattle.float.specs.Float.{absF, clampF}
@@ -16,13 +16,15 @@ use Rattle.filters.specs.Lowpass.{stepLowpass}
 use Rattle.filters.specs.Lowpass2.{setDtLowpass2, stepLowpass2}
 use Rattle.filters.specs.SlewRate.{badLimit, newSlewRate, setDtSlewRate, stepSlewRate}
 use Rattle.filters.specs.SlewRateLaws.{new-accepted, set-dt-accepted, step-accepted}
+use Rattle.rate_pid.specs.declared.PidTerms.{PidTerms}
 use Rattle.rate_pid.specs.declared.RatePid.{RatePid}
 use Rattle.rate_pid.specs.declared.Integrated.{Integrated}
+use Rattle.rate_pid.specs.declared.Advanced.{Advanced}
 use Rattle.rate_pid.specs.declared.slew.Slew.{Slew}
-use Rattle.rate_pid.specs.declared.slew.Slew.the-variants.{On}
+use Rattle.rate_pid.specs.declared.slew.Slew.the-variants.{Off, On}
 use Rattle.rate_pid.specs.declared.slew.Slewed.{Slewed}
 use Rattle.rate_pid.specs.Slew.{badSlew, setDtSlew, stepSlew}
-use Rattle.rate_pid.specs.RatePid.{rateOf, slewedOf, filteredOf, dGainOf, refDerivativeOf, measDerivativeOf, calm, calmOf, dampedOf, dampingOf, grownOf, integrated, integratedOf, termsOf, stepRate, totalOf, withSlew, limitRate, tsRate, badRate, changed, updated, callSlew, callSetTs, callUpdate}
+use Rattle.rate_pid.specs.RatePid.{rateOf, slewedOf, filteredOf, dGainOf, refDerivativeOf, measDerivativeOf, calm, calmOf, dampedOf, dampingOf, grownOf, integrated, integratedOf, termsOf, stepRate, totalOf, summed, withSlew, advanced, limitRate, tsRate, badRate, changed, updated, callSlew, callSetTs, callUpdate}
 use Rattle.rate_pid.specs.RatePidLaws.{slew-accepted, guard-passed, update-accepted}
 
 -- ---- a limiter whose limit is good does not refuse
@@ -42,60 +44,81 @@ module _ (d : Slew) (s : SlewRate) (x : Float) (good : badSlew d ≡ false) (on 
 
 -- ---- the parts of an update
 
-module _ (on : Bool) (filtered slewed : Float) where
-  pub off : on ≡ false → false ≡ calm on filtered slewed
-  unfolding calm
-  off h = simp h
+pub calm-all : (on : Bool) (filtered slewed : Float) (a b ab r : Bool) → a ≡ lt (absF filtered) F.one → b ≡ lt (absF slewed) F.one → ab ≡ (a && b) → r ≡ (on && ab) → r ≡ calm on filtered slewed
+unfolding calm
+calm-all on filtered slewed a b ab r e1 e2 e3 e4 = simp (e4, e3, e2, e1)
 
-  module _ (h : on ≡ true) (first : Bool) (e : first ≡ lt (absF filtered) F.one) where
-    pub loud : first ≡ false → false ≡ calm on filtered slewed
-    unfolding calm
-    loud k = simp (h, sym e, k)
+one-above : lt F.one F.minusOne ≡ false
+unfolding lt ofBits neg
+one-above = refl
 
-    pub quiet : first ≡ true → (second : Bool) → second ≡ lt (absF slewed) F.one → second ≡ calm on filtered slewed
-    unfolding calm
-    quiet k second g = simp (h, sym e, k, g)
+-- clamped to -1 and 1 by two tests, the second of what the first gives
+module _ (x low : Float) (e : low ≡ cond (lt x F.minusOne) F.minusOne x) where
+  pub clamp-above : lt F.one low ≡ true → F.one ≡ clampF x F.minusOne F.one
+  unfolding clampF
+  clamp-above h = go (lt x F.minusOne) refl
+    where
+      go : (t : Bool) → lt x F.minusOne ≡ t → F.one ≡ cond (lt x F.minusOne) F.minusOne (cond (lt F.one x) F.one x)
+      go true k = let z : lt F.one F.minusOne ≡ true = simp (e, k) at h in absurd (false≢true (sym one-above ∙ z))
+      go false k = let z : lt F.one x ≡ true = simp (e, k) at h in simp (k, z)
+
+  pub clamp-within : lt F.one low ≡ false → low ≡ clampF x F.minusOne F.one
+  unfolding clampF
+  clamp-within h = go (lt x F.minusOne) refl
+    where
+      go : (t : Bool) → lt x F.minusOne ≡ t → low ≡ cond (lt x F.minusOne) F.minusOne (cond (lt F.one x) F.one x)
+      go true k = simp (e, k)
+      go false k = let z : lt F.one x ≡ false = simp (e, k) at h in simp (e, k, z)
 
 module _ (s : RatePid) where
-  pub grows : (moves : Bool) (rate error size kept : Float) (damped : Lowpassed) → moves ≡ true → size ≡ absF rate → damped ≡ stepLowpass (s .lowpass) size
-      → kept ≡ clampF (s .integral +f s .ki *f error *f s .dt /f (F.one +f damped .y)) F.minusOne F.one
-      → record { integral = kept; lowpass = damped .filter } ≡ integrated s moves rate error
-  unfolding integrated grownOf dampingOf dampedOf
-  grows moves rate error size kept damped h e1 e2 e3 = simp (h, e3, e2, e1)
+  -- both ways are worked out and one is taken
+  pub picked : (moves : Bool) (rate error size grown kept y : Float) (damped : Lowpassed) → size ≡ absF rate → damped ≡ stepLowpass (s .lowpass) size
+      → grown ≡ clampF (s .integral +f s .ki *f error *f s .dt /f (F.one +f damped .y)) F.minusOne F.one
+      → kept ≡ cond moves grown (s .integral) → y ≡ cond moves (damped .y) (s .lowpass .y)
+      → record { integral = kept; lowpass = record { y = y; alpha0 = s .lowpass .alpha0; tau = s .lowpass .tau; alpha1 = s .lowpass .alpha1; dt = s .lowpass .dt } } ≡ integrated s moves rate error
+  unfolding integrated grownOf dampingOf dampedOf stepLowpass
+  picked true rate error size grown kept y damped e1 e2 e3 e4 e5 = simp (e5, e4, e3, e2, e1)
+  picked false rate error size grown kept y damped e1 e2 e3 e4 e5 = simp (e5, e4)
 
-  pub assembled : (r m p : Float) (slewed : Slewed) (filtered : NthOrderLowpassed) (moves : Bool) (next : Integrated) (out : RatePid)
-      → slewed ≡ stepSlew (s .«d_slew») r → filtered ≡ stepLowpass2 (s .«d_lowpass») m
-      → moves ≡ calm (s .«integral_en») (filtered .y) (slewed .y)
+  pub followed : (r m p slewed y : Float) (filtered : NthOrderLowpassed) (moves : Bool) (next : Integrated)
+      → slewed ≡ slewedOf s r → filtered ≡ stepLowpass2 (s .«d_lowpass») m
+      → moves ≡ calm (s .«integral_en») (filtered .y) slewed
       → next ≡ integrated s moves (s .kd /f s .dt *f (s .«prev_meas» -f filtered .y)) (p -f m)
-      → out ≡ withSlew (record {
-        kp = s .kp;
-        ki = s .ki;
-        kd = s .kd;
-        integral = next .integral;
-        «prev_meas» = filtered .y;
-        «prev_ref» = slewed .y;
-        terms = record {
-          «p_out» = s .kp *f (r -f m);
-          «i_out» = next .integral;
-          «dr_out» = s .kd /f s .dt *f (slewed .y -f s .«prev_ref»);
-          «dm_out» = s .kd /f s .dt *f (s .«prev_meas» -f filtered .y);
-        };
-        dt = s .dt;
-        «integral_en» = s .«integral_en»;
-        lowpass = next .lowpass;
-        «d_lowpass» = filtered .filter;
-        «d_slew» = s .«d_slew»;
-      }) (slewed .slew)
-      → out ≡ stepRate s r m p
-  unfolding stepRate termsOf integratedOf calmOf slewedOf filteredOf refDerivativeOf measDerivativeOf dGainOf withSlew
-  assembled r m p slewed filtered moves next out e1 e2 e3 e4 e5 = simp (e5, e4, e3, e2, e1)
+      → let terms : PidTerms = record {
+        «p_out» = s .kp *f (r -f m);
+        «i_out» = next .integral;
+        «dr_out» = s .kd /f s .dt *f (slewed -f s .«prev_ref»);
+        «dm_out» = s .kd /f s .dt *f (s .«prev_meas» -f filtered .y);
+      } in
+      y ≡ totalOf terms
+      → record { y = y; pid = rateOf (s .kp) (s .ki) (s .kd) (next .integral) (filtered .y) slewed terms (s .dt) (s .«integral_en») (next .lowpass) (filtered .filter) (s .«d_slew») }
+      ≡ summed (withSlew (stepRate s r m p) (s .«d_slew»))
+  unfolding stepRate termsOf integratedOf calmOf filteredOf refDerivativeOf measDerivativeOf dGainOf withSlew summed
+  followed r m p slewed y filtered moves next e1 e2 e3 e4 e5 = simp (e5, e4, e3, e2, e1)
+
+  -- with the limiter moved too
+  pub stepped : (r m p : Float) (limited : Slewed) (next : Advanced) (pid : RatePid)
+      → limited ≡ stepSlew (s .«d_slew») r → next ≡ summed (withSlew (stepRate s r m p) (s .«d_slew»)) → pid ≡ withSlew (next .pid) (limited .slew)
+      → record { y = next .y; pid = pid } ≡ summed (stepRate s r m p)
+  unfolding stepRate withSlew summed
+  stepped r m p limited next pid e1 e2 e3 = simp (e3, e2, e1)
+
+  -- with the limiter taken off before
+  module _ (bare : RatePid) (e : bare ≡ withSlew s Off) where
+    pub passes : (r : Float) → r ≡ slewedOf bare r
+    unfolding slewedOf stepSlew withSlew
+    passes r = simp e
+
+    pub taken-off : (r m p : Float) (next : Advanced) → next ≡ summed (withSlew (stepRate bare r m p) (bare .«d_slew»)) → next ≡ advanced s r m p
+    unfolding stepRate stepSlew withSlew summed advanced
+    taken-off r m p next f = simp (f, e)
 
   -- ---- the calls, on a state that is not bad
 
   module _ (good : badRate s ≡ false) where
-    pub stepped : (r m p : Float) (pid : RatePid) (y : Float) → pid ≡ stepRate s r m p → y ≡ totalOf (pid .terms)
-        → updated Refusal.None y pid ≡ callUpdate s r m p
-    stepped r m p pid y e1 e2 = simp (update-accepted s good r m p, e2, e1)
+    pub accepted : (r m p : Float) (next : Advanced) → next ≡ summed (stepRate s r m p) → updated Refusal.None (next .y) (next .pid) ≡ callUpdate s r m p
+    unfolding summed
+    accepted r m p next e = simp (update-accepted s good r m p, e)
 
     pub limited : (limit : Float) (made : SlewRateMade) (pid : RatePid) → badLimit limit ≡ false → made ≡ newSlewRate limit (s .dt) → pid ≡ withSlew s (On (made .filter))
         → changed Refusal.None pid ≡ callSlew s limit

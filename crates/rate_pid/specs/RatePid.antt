@@ -15,12 +15,13 @@ use Rattle.filters.specs.SlewRate.{badLimit, slewOf}
 use Rattle.rate_pid.specs.declared.PidTerms.{PidTerms}
 use Rattle.rate_pid.specs.declared.RatePid.{RatePid}
 use Rattle.rate_pid.specs.declared.Integrated.{Integrated}
+use Rattle.rate_pid.specs.declared.Advanced.{Advanced}
 use Rattle.rate_pid.specs.declared.Changed.{Changed}
 use Rattle.rate_pid.specs.declared.Updated.{Updated}
 use Rattle.rate_pid.specs.declared.Terms.{Terms}
 use Rattle.rate_pid.specs.declared.slew.Slew.{Slew}
 use Rattle.rate_pid.specs.declared.slew.Slew.the-variants as Slew
-use Rattle.rate_pid.specs.Slew.{badSlew, setDtSlew, stepSlew}
+use Rattle.rate_pid.specs.Slew.{isOff, badSlew, setDtSlew, stepSlew}
 
 abbrev pub ten : Float
 ten = ofBits binary32 0x4120_0000
@@ -119,6 +120,10 @@ stepRate s r m p = record {
 unfoldable pub totalOf : PidTerms → Float
 totalOf t = t .«p_out» +f t .«i_out» +f t .«dr_out» +f t .«dm_out»
 
+-- the value of an update, and the state after it
+unfoldable pub summed : RatePid → Advanced
+summed next = record { y = totalOf (next .terms); pid = next }
+
 -- ---- what the other calls do, whatever the limit
 
 unfoldable pub newRate : Float → Float → Float → Float → Float → RatePid
@@ -140,6 +145,14 @@ newRate kp ki kd tau dt = record {
 -- the limiter alone is another
 unfoldable pub withSlew : RatePid → Slew → RatePid
 withSlew s d = rateOf (s .kp) (s .ki) (s .kd) (s .integral) (s .«prev_meas») (s .«prev_ref») (s .terms) (s .dt) (s .«integral_en») (s .lowpass) (s .«d_lowpass») d
+
+-- there is no limiter
+unfoldable pub unlimitedRate : RatePid → Bool
+unlimitedRate s = isOff (s .«d_slew»)
+
+-- an update of the state with its limiter taken off
+unfoldable pub advanced : RatePid → Float → Float → Float → Advanced
+advanced s r m p = summed (stepRate (withSlew s Slew.Off) r m p)
 
 -- a limiter that starts at +0, with the controller's sample time
 unfoldable pub limitRate : RatePid → Float → RatePid

@@ -1,7 +1,7 @@
 -- Laws of the rate controller, for every state and every input: what its calls leave when refused, when the integral moves
 -- and when it stands still, its bound, and that the terms are what the output adds up. Assumes nothing.
-use mathlib.Core.Path.{_≡_, refl, sym, _∙_}
-use mathlib.Core.Bool.{and-true, and-false, Bool, true, false, cond, _&&_}
+use mathlib.Core.Path.{_≡_, refl, sym, _∙_, ap}
+use mathlib.Core.Bool.{and-true, and-false, Bool, true, false, cond, _&&_, true≢false}
 use mathlib.Core.Logic.{_⊎_, inl, inr}
 use Prim.Native.Nat.{ℕ, _+_, _<_}
 use native.Mathlib.Omega.{arith}
@@ -21,8 +21,8 @@ use Rattle.rate_pid.specs.declared.RatePid.{RatePid}
 use Rattle.rate_pid.specs.declared.Changed.{Changed}
 use Rattle.rate_pid.specs.declared.slew.Slew.{Slew}
 use Rattle.rate_pid.specs.declared.slew.Slew.the-variants.{Off, On}
-use Rattle.rate_pid.specs.Slew.{badSlew, setDtSlew, stepSlew}
-use Rattle.rate_pid.specs.RatePid.{zeroTerms, zeroRate, slewedOf, filteredOf, measDerivativeOf, calm, calmOf, dampedOf, grownOf, integrated, integratedOf, stepRate, totalOf, newRate, withSlew, limitRate, tsRate, gainsRate, enableRate, resetRate, badRate, changed, updated, told, guarded, callSlew, callSetTs, callSetGains, callEnableIntegral, callResetIntegral, callEnableResetIntegral, callUpdate, callGetTerms}
+use Rattle.rate_pid.specs.Slew.{isOff, badSlew, setDtSlew, stepSlew}
+use Rattle.rate_pid.specs.RatePid.{zeroTerms, zeroRate, slewedOf, filteredOf, measDerivativeOf, calm, calmOf, dampedOf, grownOf, integrated, integratedOf, stepRate, totalOf, summed, newRate, withSlew, unlimitedRate, advanced, limitRate, tsRate, gainsRate, enableRate, resetRate, badRate, changed, updated, told, guarded, callSlew, callSetTs, callSetGains, callEnableIntegral, callResetIntegral, callEnableResetIntegral, callUpdate, callGetTerms}
 
 -- ---- refused, a call leaves the state, and its numbers are +0
 
@@ -85,6 +85,27 @@ module _ (s : RatePid) (good : badRate s ≡ false) where
   pub get-terms-accepted : callGetTerms s ≡ told Refusal.None (s .terms)
   unfolding callGetTerms
   get-terms-accepted = simp good
+
+-- ---- a state without a limiter: its updates are not refused, and `advance` makes them
+
+off-is : (d : Slew) → isOff d ≡ true → d ≡ Off
+unfolding isOff
+off-is Off h = refl
+off-is (On s) h = absurd (true≢false (sym h))
+
+module _ (s : RatePid) (r m p : Float) where
+  pub advanced-updates : unlimitedRate s ≡ true → callUpdate s r m p ≡ updated Refusal.None (advanced s r m p .y) (advanced s r m p .pid)
+  unfolding unlimitedRate badRate badSlew advanced summed withSlew
+  advanced-updates h =
+      let off = off-is (s .«d_slew») h in
+      let good : badRate s ≡ false = simp off in
+      let bare : s ≡ withSlew s Off = ap (withSlew s) off in
+      update-accepted s good r m p ∙ ap (λ (x : RatePid). updated Refusal.None (totalOf (stepRate x r m p .terms)) (stepRate x r m p)) bare
+
+  -- and none has come after it
+  pub advanced-unlimited : unlimitedRate (advanced s r m p .pid) ≡ true
+  unfolding unlimitedRate isOff advanced summed stepRate stepSlew withSlew
+  advanced-unlimited = refl
 
 -- what holds of the state before, and of the one that the call makes, holds of the one that it leaves
 guarded-keeps : (P : RatePid → Type 0) (s : RatePid) (next : Changed) → P s → P (next .pid) → P (guarded s next .pid)

@@ -1,10 +1,14 @@
 -- `Slew`: a limiter of the reference, or none.
-use mathlib.Core.Bool.{Bool, false}
+use mathlib.Core.Bool.{Bool, true, false}
 use lib.Ieee.{Float}
 use Rattle.filters.specs.SlewRate.{badLimit, slewStep, slewSetDt}
 use Rattle.rate_pid.specs.declared.slew.Slew.{Slew}
 use Rattle.rate_pid.specs.declared.slew.Slew.the-variants.{Off, On}
 use Rattle.rate_pid.specs.declared.slew.Slewed.{Slewed}
+
+unfoldable pub isOff : Slew → Bool
+isOff Off = true
+isOff (On s) = false
 
 unfoldable pub badSlew : Slew → Bool
 badSlew Off = false

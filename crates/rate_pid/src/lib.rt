@@ -2,11 +2,11 @@
 // changes one where it lies. Every call, on a state built by hand too, refuses a stored slew limit that has a negative
 // sign or is NaN, and leaves the state as it was.
 ghost use mathlib.Core.Path.{_≡_};
-ghost use mathlib.Core.Bool.{false};
+ghost use mathlib.Core.Bool.{false, cond, _&&_};
 ghost use lib.Ieee.{lt};
 ghost use Rattle.float.specs.F32 as F;
-ghost use Rattle.float.specs.Float.{absF};
-ghost use Rattle.rate_pid.specs.RatePid.{zeroTerms, zeroRate, totalOf, calm, integrated, badRate, withSlew, newRate, stepRate, callSlew, callSetTs, callSetGains, callEnableIntegral, callResetIntegral, callEnableResetIntegral, callUpdate, callGetTerms};
+ghost use Rattle.float.specs.Float.{absF, clampF};
+ghost use Rattle.rate_pid.specs.RatePid.{zeroTerms, zeroRate, totalOf, calm, integrated, badRate, slewedOf, withSlew, newRate, stepRate, callSlew, callSetTs, callSetGains, callEnableIntegral, callResetIntegral, callEnableResetIntegral, callUpdate, callGetTerms, unlimitedRate, summed, advanced};
 
 mod slew;
 
@@ -65,6 +65,12 @@ pub struct Terms {
     pub terms: PidTerms,
 }
 
+// The value of an update that cannot be refused, and the state after it.
+pub struct Advanced {
+    pub y: f32,
+    pub pid: RatePid,
+}
+
 // What an update makes of the integral and of the damping filter.
 struct Integrated {
     integral: f32,
@@ -81,16 +87,40 @@ fn small(x: f32) -> bool
     false
 }
 
-// The integral may move. NaN is never calm.
+// One of two numbers. Both are worked out before it is known which: the compiler makes no jump of it.
+fn pick(first: bool, a: f32, b: f32) -> f32
+    ensures { λ r. ⌜ r ≡ cond first a b ⌝ }
+{
+    if first { a } else { b }
+}
+
+fn both(a: bool, b: bool) -> bool
+    ensures { λ r. ⌜ r ≡ (a && b) ⌝ }
+{
+    if a { b } else { false }
+}
+
+fn at_least_minus_one(x: f32) -> f32
+    ensures { λ r. ⌜ r ≡ cond (lt x F.minusOne) F.minusOne x ⌝ }
+{
+    if x < -1.0 { -1.0 } else { x }
+}
+
+// Clamped to -1 and 1. The second test is of what the first gives, so that the compiler makes one instruction of each.
+fn clamp_to_one(x: f32) -> f32
+    ensures { λ r. ⌜ r ≡ clampF x F.minusOne F.one ⌝ }
+{
+    let low = at_least_minus_one(x);
+    if low > 1.0 { 1.0 } else { low }
+}
+
+// The integral may move. NaN is never calm. All three are asked in any case, so that none becomes a jump.
 fn calm(on: bool, filtered: f32, slewed: f32) -> bool
     ensures { λ r. ⌜ r ≡ calm on filtered slewed ⌝ }
 {
-    if on {
-        if small(filtered) {
-            return small(slewed);
-        }
-    }
-    false
+    let filtered_small = small(filtered);
+    let slewed_small = small(slewed);
+    both(on, both(filtered_small, slewed_small))
 }
 
 impl PidTerms {
@@ -143,38 +173,27 @@ impl RatePid {
         }
     }
 
-    // What the damping filter gives is worked out in any case, and the fed filter is kept only while the integral moves.
+    // What the integral and the damping filter become if they move is worked out in any case, and kept only if they do.
     fn integrate(self, moves: bool, rate: f32, error: f32) -> Integrated
         ensures { λ r. ⌜ r ≡ integrated self moves rate error ⌝ }
     {
         let old = self.lowpass;
         let damped = old.update(float::abs(rate));
-        let fed = damped.filter;
-        if moves {
-            let damping = 1.0 + damped.y;
-            let sum = self.integral + self.ki * error * self.dt / damping;
-            let integral = float::clamp(sum, -1.0, 1.0);
-            return Integrated {
-                integral,
-                lowpass: fed,
-            };
-        }
-        let integral = self.integral;
-        Integrated {
-            integral,
-            lowpass: old,
-        }
+        let damping = 1.0 + damped.y;
+        let sum = self.integral + self.ki * error * self.dt / damping;
+        let grown = clamp_to_one(sum);
+        let integral = pick(moves, grown, self.integral);
+        let mut lowpass = old;
+        lowpass.y = pick(moves, damped.y, old.y);
+        Integrated { integral, lowpass }
     }
 
-    // An update of a state that is not bad. P goes by the raw reference, the derivative and the calm
-    // test by the slewed one.
-    fn step(mut self, reference: f32, measurement: f32, prediction: f32) -> Self
-        requires { ⌜ badRate self ≡ false ⌝ }
-        ensures { λ r. ⌜ r ≡ stepRate self reference measurement prediction ⌝ }
+    // An update with the reference as the limiter lets it through, but for the limiter itself. P goes by the raw reference,
+    // the derivative and the calm test by the slewed one.
+    fn follow(mut self, slewed: f32, reference: f32, measurement: f32, prediction: f32) -> Advanced
+        requires { ⌜ slewed ≡ slewedOf self reference ⌝ }
+        ensures { λ r. ⌜ r ≡ summed (withSlew (stepRate self reference measurement prediction) (self .«d_slew»)) ⌝ }
     {
-        let slew = self.d_slew;
-        let limited = slew.update(reference);
-        let slewed = limited.y;
         let filter = self.d_lowpass;
         let passed = filter.update(measurement);
         let measurement_lp = passed.y;
@@ -186,20 +205,52 @@ impl RatePid {
         let integral = next.integral;
         let lowpass = next.lowpass;
         let d_lowpass = passed.filter;
-        let d_slew = limited.slew;
         let terms = PidTerms {
             p_out: self.kp * (reference - measurement),
             i_out: integral,
             dr_out: ref_derivative,
             dm_out: meas_derivative,
         };
+        let y = terms.total();
         self.integral = integral;
         self.prev_meas = measurement_lp;
         self.prev_ref = slewed;
         self.terms = terms;
         self.lowpass = lowpass;
         self.d_lowpass = d_lowpass;
-        self.with_slew(d_slew)
+        Advanced { y, pid: self }
+    }
+
+    // An update of a state that is not bad.
+    fn step(self, reference: f32, measurement: f32, prediction: f32) -> Advanced
+        requires { ⌜ badRate self ≡ false ⌝ }
+        ensures { λ r. ⌜ r ≡ summed (stepRate self reference measurement prediction) ⌝ }
+    {
+        let slew = self.d_slew;
+        let limited = slew.update(reference);
+        let next = self.follow(limited.y, reference, measurement, prediction);
+        let moved = next.pid;
+        let d_slew = limited.slew;
+        let pid = moved.with_slew(d_slew);
+        Advanced { y: next.y, pid }
+    }
+
+    // There is no limiter.
+    pub fn unlimited(self) -> bool
+        ensures { λ r. ⌜ r ≡ unlimitedRate self ⌝ }
+    {
+        let d_slew = self.d_slew;
+        d_slew.off()
+    }
+
+    // An update of the state with its limiter, if it has one, taken off: it cannot be refused, and there is no test in it that
+    // the compiler must make a jump of.
+    pub fn advance(self, reference: f32, measurement: f32, prediction: f32) -> Advanced
+        ensures { λ r. ⌜ r ≡ advanced self reference measurement prediction ⌝ }
+    {
+        let off = Slew::Off;
+        let bare = self.with_slew(off);
+        bare.follow(reference, reference, measurement, prediction)
     }
 
     // The all-zero state with its switches off. Nothing made by `new` is like it: there the integral is on.
@@ -357,11 +408,10 @@ impl RatePid {
             let answer = Answer { refusal, y: 0.0 };
             return Updated { answer, pid: self };
         }
-        let pid = self.step(reference, measurement, prediction);
-        let terms = pid.terms;
-        let y = terms.total();
+        let next = self.step(reference, measurement, prediction);
+        let pid = next.pid;
         let refusal = Refusal::None;
-        let answer = Answer { refusal, y };
+        let answer = Answer { refusal, y: next.y };
         Updated { answer, pid }
     }
 

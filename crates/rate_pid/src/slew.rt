@@ -2,7 +2,7 @@
 // one of the last two.
 ghost use mathlib.Core.Path.{_≡_};
 ghost use mathlib.Core.Bool.{false};
-ghost use Rattle.rate_pid.specs.Slew.{badSlew, setDtSlew, stepSlew};
+ghost use Rattle.rate_pid.specs.Slew.{isOff, badSlew, setDtSlew, stepSlew};
 use filters::SlewRate;
 
 pub enum Slew {
@@ -17,6 +17,15 @@ pub struct Slewed {
 }
 
 impl Slew {
+    pub(crate) fn off(self) -> bool
+        ensures { λ r. ⌜ r ≡ isOff self ⌝ }
+    {
+        match self {
+            Slew::Off => true,
+            Slew::On(s) => false,
+        }
+    }
+
     pub(crate) fn bad(self) -> bool
         ensures { λ r. ⌜ r ≡ badSlew self ⌝ }
     {

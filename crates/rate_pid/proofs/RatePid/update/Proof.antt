@@ -1,7 +1,7 @@
 use mathlib.Core.Path.{sym, _∙_}
 use borrow.Author.Needs.{needs}
 use Rattle.rate_pid.specs.RatePidLaws.{update-refused}
-use Rattle.rate_pid.proofs.Steps.{stepped}
+use Rattle.rate_pid.proofs.Steps.{accepted}
 use Rattle.rate_pid.proofs.RatePid.update.Statement.{statement}
 use Rattle.rate_pid.proofs.RatePid.update.Tie as tie
 
@@ -14,13 +14,8 @@ returns c = sym (update-refused _ (sym (c .before .bad .ensures) ∙ c .if1 .tak
 step-requires : tie.Need-step-requires
 step-requires c κs = sym (c .before .bad .ensures) ∙ c .if1 .left
 
-total-requires : tie.Need-total-requires
-total-requires c κs = search needs
-
 returns-2 : tie.Need-returns-2
-returns-2 c =
-    stepped _ (sym (c .before .before .before .before .bad .ensures) ∙ c .before .before .before .if1 .left) _ _ _ _ _
-    (c .before .before .step .ensures) (c .total .ensures)
+returns-2 c = accepted _ (sym (c .before .before .before .bad .ensures) ∙ c .before .before .if1 .left) _ _ _ _ (c .before .step .ensures)
 
 pub update-spec : {M : Type 1} → statement M
-update-spec = tie.close (tie.spec bad-requires returns step-requires total-requires returns-2)
+update-spec = tie.close (tie.spec bad-requires returns step-requires returns-2)
