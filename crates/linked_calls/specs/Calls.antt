@@ -16,7 +16,7 @@ callAt b cells i = bankStep b (i % 8) (Update (getD cells (i * 3) nan) (getD cel
 
 -- The bank after so many calls.
 unfoldable pub bankAfter : List Float → List Float → ℕ → Bank
-bankAfter s cells n = stateAfter (eightOf s) (λ b i. callAt b cells i .bank) n
+bankAfter s cells n = stateAfter (eightOf s 0) (λ b i. callAt b cells i .bank) n
 
 -- The answers in their places after so many calls; the rest as it was.
 unfoldable pub outAfter : List Float → List Float → ℕ → List Float → List Float
@@ -24,4 +24,4 @@ outAfter s cells n out = placed (λ i. callAt (bankAfter s cells i) cells i .ans
 
 -- the run on its way
 abbrev pub BankRun : List Float → List Float → List Float → ℕ → ℕ → Bank → List Float → Type 0
-BankRun s cells = Running (eightOf s) (λ b i. callAt b cells i) (λ (u : Banked). u .bank) (λ (u : Banked). u .answer .y) cells
+BankRun s cells = Running (eightOf s 0) (λ b i. callAt b cells i) (λ (u : Banked). u .bank) (λ (u : Banked). u .answer .y) cells
