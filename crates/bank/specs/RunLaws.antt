@@ -3,7 +3,7 @@ use mathlib.Core.Path.{_≡_, refl, sym, _∙_, ap, subst}
 use mathlib.Core.List.{List}
 use Prim.Native.Nat.{ℕ, _≤_}
 use Rattle.lanes.specs.Runs.{Follows, Followed, follow, left-keeps}
-use Rattle.lanes.specs.Lanes.{For, ofLane, Apart, Own, own}
+use Rattle.lanes.specs.Lanes.{For, ofLane, Apart, Own, own, same-own}
 use Rattle.float.specs.F32 as F
 use Rattle.float.specs.FloatLaws.{Within}
 use Rattle.bank.specs.declared.lane.Lane.{Lane}
@@ -82,7 +82,7 @@ module _ (L : ℕ) (low : L ≤ 7) where
 
   -- two runs with the same calls for the lane have the same answers from it, whatever else stands between
   pub same-answers : (calls other : List (For Op)) → ofLane L calls ≡ ofLane L other → ofLane L (run freshBank calls) ≡ ofLane L (run freshBank other)
-  same-answers calls other e = run-theorem calls ∙ ap (singleRun none) e ∙ sym (run-theorem other)
+  same-answers calls other e = same-own bankMachine laneMachine Eight L (λ b. laneAt b L) bank-apart calls other freshBank fresh-eight e
 
 -- ---- the integral
 

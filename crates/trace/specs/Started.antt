@@ -35,7 +35,7 @@ use Rattle.trace.specs.Columns.{controllerAt, settingsOf, opened-lies}
 
 -- ---- a course whose lanes are open
 
--- it has rows, and no update of a lane of its rows is refused
+-- it can have rows, and no update of a lane of its rows is refused
 pub record Open (c : Course) : Type 0 where
   pub form : passes (formRefusal (c .kind) (c .lanes)) ≡ true
   pub eight : Eight (c .bank)
@@ -129,7 +129,7 @@ module _ (s : List ℕ) (e : passes (startOf s .refusal) ≡ true) where
       let more : 0 < onRows m c (rowsOf s) .left = rw (on-left m c (rowsOf s)) (omega arith) in
       let past : length (rowsOf s) < m * w + w = lt-div-mul-add (some-bytes s (started s e)) in
       let short : length (drop (m * rowWidth c) (rowsOf s)) < rowWidth (onRows m c (rowsOf s)) = rw (length-drop (m * rowWidth c) (rowsOf s), on-width m c (rowsOf s)) (omega arith) in
-      let cut : rowRefusal (onRows m c (rowsOf s)) (drop (m * rowWidth c) (rowsOf s)) ≡ Refusal.Cut = row-short there rest (open-rows m c (rowsOf s) start-open .form) short in
+      let cut : rowRefusal (onRows m c (rowsOf s)) (drop (m * rowWidth c) (rowsOf s)) ≡ Refusal.Cut = row-short there rest (open-rows m c (rowsOf s) start-open .form) short .0 in
       refused-after m (omega arith) fits ∙ spent-row there rest more (ap passes cut) ∙ cut
     where
       less-rows : (m w left len : ℕ) → m * w ≤ len → len < left * w → m < left

@@ -154,7 +154,7 @@ pub record Accepted (s : List ℕ) : Type 0 where
 pub accepted-all : (s : List ℕ) → Accepted s → Whole (startOf s .course) (rowsOf s) (startOf s .course .left)
 accepted-all s a = record { taken = a .rows; spent = inl (on-left (startOf s .course .left) (startOf s .course) (rowsOf s) ∙ omega arith) }
 
--- nothing of it is refused exactly there
+-- then nothing of it is refused (the converse: `unrefused-accepted`, WholeLaws)
 pub accepted-unrefused : (s : List ℕ) → Accepted s → replayRefusal s ≡ Refusal.None
 unfolding restRefusal
 accepted-unrefused s a =

@@ -24,9 +24,10 @@ use Rattle.npy.specs.CellLaws.{cell-start, cells-take}
 use Rattle.bank.specs.declared.Bank.{Bank}
 use Rattle.trace.specs.declared.course.Course.{Course}
 use Rattle.trace.specs.Turns.{each-take}
-use Rattle.trace.specs.Trace.{isF4, settingsBytes, settingsRefusal, openOf, openedBank, refusedStart, unless, traceStart, startOf, replayOf, refusedLine, reasonText, rowWidth, rowCalls, rowLine, rowOn, nextRows, onRows, formRefusal, cutRefusal, rowRefusal, restRefusal, courseRefusal, courseText}
+use Rattle.trace.specs.Trace.{isF4, settingsBytes, settingsRefusal, openOf, openedBank, refusedStart, unless, traceStart, startOf, replayOf, refusedLine, reasonText, rowWidth, rowCalls, rowLine, rowOn, nextRows, onRows, formRefusal, cutRefusal, rowRefusal, courseRefusal, courseText}
 use Rattle.trace.specs.Taken.{CanTake, Spent, take-bytes, row-taken, text-cut, spent-lines, spent-rest, spent-row, spent-text, wholeRows, whole-is}
 use Rattle.trace.specs.RowsLaws.{row-short, row-formless}
+use Rattle.trace.specs.MeasureLaws.{rest-of, rest-some}
 use Rattle.trace.specs.TraceLaws.{settings-parts, secondAt, started, start-within}
 
 -- ---- rows are read from their own bytes alone
@@ -89,28 +90,38 @@ windowed c kept (w ∷ ws) =
     let held = kept ++ w .bytes in
     nextRows (w .rows) c held ++ windowed (onRows (w .rows) c held) (drop (w .rows * rowWidth c) held) ws
 
--- it may print any number of rows that can be taken of what it holds, as its room for them asks; at the end it has printed all of them
-unfoldable pub Allowed : Course → List ℕ → List Window → Type 0
-Allowed c kept [] = Spent c kept
-Allowed c kept (w ∷ ws) =
+-- it may print any number of rows that can be taken of what it holds, as its room for them asks, and ends where it may
+unfoldable pub AllowedTo : (Course → List ℕ → Type 0) → Course → List ℕ → List Window → Type 0
+AllowedTo End c kept [] = End c kept
+AllowedTo End c kept (w ∷ ws) =
     CanTake (w .rows) c (kept ++ w .bytes)
-    × Allowed (onRows (w .rows) c (kept ++ w .bytes)) (drop (w .rows * rowWidth c) (kept ++ w .bytes)) ws
+    × AllowedTo End (onRows (w .rows) c (kept ++ w .bytes)) (drop (w .rows * rowWidth c) (kept ++ w .bytes)) ws
+
+-- at the end of the input it has printed all of them
+abbrev pub Allowed : Course → List ℕ → List Window → Type 0
+Allowed = AllowedTo Spent
+
+-- where the end is told rightly, whatever else there is to read, so is the whole
+windows-to : (End : Course → List ℕ → Type 0) (more : List ℕ) → ((c : Course) (kept : List ℕ) → End c kept → courseText c (kept ++ more) ≡ reasonText (courseRefusal c kept))
+    → (ws : List Window) (c : Course) (kept : List ℕ) → AllowedTo End c kept ws → windowed c kept ws ≡ courseText c (kept ++ (joined ws ++ more))
+unfolding windowed AllowedTo joined
+windows-to End more tells [] c kept a = sym (tells c kept a)
+windows-to End more tells (w ∷ ws) c kept a =
+    let held = kept ++ w .bytes in
+    let rest = windows-to End more tells ws (onRows (w .rows) c held) (drop (w .rows * rowWidth c) held) (a .1) in
+    rw (rest, append-assoc (w .bytes) (joined ws) more, ← append-assoc kept (w .bytes) (joined ws ++ more)) (sym (held-cut (w .rows) c held (joined ws ++ more) (a .0)))
 
 -- THE WINDOWS THEOREM: however the input is cut, and however many rows are printed at a time, the text is the same
 pub windows-theorem : (ws : List Window) (c : Course) (kept : List ℕ) → Allowed c kept ws → windowed c kept ws ≡ courseText c (kept ++ joined ws)
-unfolding windowed Allowed joined
-windows-theorem [] c kept a = rw (append-nil kept) (sym (spent-text c kept a))
-windows-theorem (w ∷ ws) c kept a =
-    let held = kept ++ w .bytes in
-    let rest = windows-theorem ws (onRows (w .rows) c held) (drop (w .rows * rowWidth c) held) (a .1) in
-    rw (rest, ← append-assoc kept (w .bytes) (joined ws)) (sym (held-cut (w .rows) c held (joined ws) (a .0)))
+windows-theorem ws c kept a =
+    windows-to Spent [] (λ c kept h. rw (append-nil kept) (spent-text c kept h)) ws c kept a ∙ rw (append-nil (joined ws))
 
 refused-ahead : (c : Course) (kept more : List ℕ) → (rowRefusal c kept ≡ Refusal.Cut → ⊥) → rowRefusal c (kept ++ more) ≡ rowRefusal c kept
 refused-ahead c kept more other = go (passes (formRefusal (c .kind) (c .lanes))) refl
   where
     go : (t : Bool) → passes (formRefusal (c .kind) (c .lanes)) ≡ t → rowRefusal c (kept ++ more) ≡ rowRefusal c kept
     go false e = row-formless c (kept ++ more) e .0 ∙ sym (row-formless c kept e .0)
-    go true e = ⊎-elim (λ (g : length kept < rowWidth c). absurd (other (row-short c kept e g))) (λ (g : rowWidth c ≤ length kept). row-ahead c kept more g) (lt-or-le (length kept) (rowWidth c))
+    go true e = ⊎-elim (λ (g : length kept < rowWidth c). absurd (other (row-short c kept e g .0))) (λ (g : rowWidth c ≤ length kept). row-ahead c kept more g) (lt-or-le (length kept) (rowWidth c))
 
 -- a reader need not read to the end: what the next row is refused with, unless it is that it is cut off, is known where the row is held
 pub refused-known : (c : Course) (kept more : List ℕ) → 0 < c .left → passes (rowRefusal c kept) ≡ false → (rowRefusal c kept ≡ Refusal.Cut → ⊥) → courseText c (kept ++ more) ≡ refusedLine (rowRefusal c kept)
@@ -122,12 +133,25 @@ refused-known c kept more l h other =
 
 -- and one byte after the last row is known to be refused
 pub rest-known : (c : Course) (kept more : List ℕ) → c .left ≡ 0 → 0 < length kept → courseText c (kept ++ more) ≡ refusedLine Refusal.Rest
-unfolding courseText reasonText passes restRefusal
-rest-known c kept more e h = rw (spent-lines c (kept ++ more) (inl e), spent-rest c (kept ++ more) e, rest-some (kept ++ more) (rw length-append (omega arith)))
-  where
-    rest-some : (s : List ℕ) → 0 < length s → restRefusal s ≡ Refusal.Rest
-    rest-some [] h = absurd (omega arith)
-    rest-some (x ∷ s) h = refl
+unfolding courseText reasonText passes
+rest-known c kept more e h =
+    let some : 0 < length (kept ++ more) = rw length-append (omega arith) in
+    rw (spent-lines c (kept ++ more) (inl e), spent-rest c (kept ++ more) e, rest-of (kept ++ more), rest-some some)
+
+-- so a reader may stop there, whatever is still to be read
+abbrev pub Known : Course → List ℕ → Type 0
+Known c kept = ((0 < c .left) × (passes (rowRefusal c kept) ≡ false) × (rowRefusal c kept ≡ Refusal.Cut → ⊥)) ⊎ ((c .left ≡ 0) × (0 < length kept))
+
+known-text : (more : List ℕ) (c : Course) (kept : List ℕ) → Known c kept → courseText c (kept ++ more) ≡ reasonText (courseRefusal c kept)
+unfolding reasonText passes
+known-text more c kept h =
+    ⊎-elim
+    (λ (k : (0 < c .left) × (passes (rowRefusal c kept) ≡ false) × (rowRefusal c kept ≡ Refusal.Cut → ⊥)). refused-known c kept more (k .0) (k .1) (k .2) ∙ sym (rw (spent-row c kept (k .0) (k .1), k .1)))
+    (λ (k : (c .left ≡ 0) × (0 < length kept)). rest-known c kept more (k .0) (k .1) ∙ sym (rw (spent-rest c kept (k .0), rest-of kept, rest-some (k .1))))
+    h
+
+pub early-theorem : (more : List ℕ) (ws : List Window) (c : Course) (kept : List ℕ) → AllowedTo Known c kept ws → windowed c kept ws ≡ courseText c (kept ++ (joined ws ++ more))
+early-theorem more = windows-to Known more (known-text more)
 
 -- a reader that prints all the rows it holds, each time
 unfoldable pub atOnce : Course → List ℕ → List (List ℕ) → List Window
@@ -138,7 +162,7 @@ atOnce c kept (bytes ∷ more) =
     record { bytes = bytes; rows = n } ∷ atOnce (onRows n c held) (drop (n * rowWidth c) held) more
 
 pub at-once-allowed : (parts : List (List ℕ)) (c : Course) (kept : List ℕ) → (parts ≡ [] → Spent c kept) → Allowed c kept (atOnce c kept parts)
-unfolding atOnce Allowed
+unfolding atOnce AllowedTo
 at-once-allowed [] c kept e = e refl
 at-once-allowed (bytes ∷ more) c kept e =
     let held = kept ++ bytes in
