@@ -14,5 +14,5 @@ while rest:
     count += 1
 with open(f"{folder}/stdout", "rb") as kept:
     if kept.read() != answers:
-        sys.exit("test: the Rust answers the kept files otherwise than crates/cases/stdout has it")
-print(f"test: the Rust answers the {count} kept files as crates/cases/stdout has them")
+        sys.exit("test: the Rust answers the kept files otherwise than crates/replay_cases/stdout has it")
+print(f"test: the Rust answers the {count} kept files as crates/replay_cases/stdout has them")

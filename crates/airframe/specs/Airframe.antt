@@ -115,12 +115,12 @@ signed (pos (suc n)) d = d
 signed (negsuc n) d = neg d
 
 -- the Rust's `reaction * dir` and `-reaction * dir`
-unfoldable pub motorAt : Float → Float → Float → Float → Signs → Motor
-motorAt halfX halfY reaction dir s = motor (signed (s .0) halfX) (signed (s .1) halfY) (signed (s .2) reaction *f dir)
+unfoldable pub frameMotor : Float → Float → Float → Float → Signs → Motor
+frameMotor halfX halfY reaction dir s = motor (signed (s .0) halfX) (signed (s .1) halfY) (signed (s .2) reaction *f dir)
 
 unfoldable pub frame : Float → Float → Float → Float → List Signs → List Motor
 frame halfX halfY reaction dir [] = []
-frame halfX halfY reaction dir (s ∷ ss) = motorAt halfX halfY reaction dir s ∷ frame halfX halfY reaction dir ss
+frame halfX halfY reaction dir (s ∷ ss) = frameMotor halfX halfY reaction dir s ∷ frame halfX halfY reaction dir ss
 
 unfoldable pub dirOf : Bool → Float
 dirOf turned = cond turned F.minusOne F.one
@@ -138,8 +138,8 @@ mixed ms = record { refusal = refusalOf ms; matrix = matrixOf ms }
 unfoldable pub quad : ℕ → Float → Float → Float → Bool → Mixing
 quad first xDist yDist reaction turned = mixed (quadMotors first xDist yDist reaction turned)
 
-unfoldable pub quadX : Float → Float → Float → Bool → Mixing
-quadX xDist yDist reaction outspin = quad 0 xDist yDist reaction outspin
+unfoldable pub callQuadXBasic : Float → Float → Float → Bool → Mixing
+callQuadXBasic xDist yDist reaction outspin = quad 0 xDist yDist reaction outspin
 
-unfoldable pub quadP : Float → Float → Float → Bool → Mixing
-quadP xDist yDist reaction reverse = quad 4 xDist yDist reaction reverse
+unfoldable pub callQuadPBasic : Float → Float → Float → Bool → Mixing
+callQuadPBasic xDist yDist reaction reverse = quad 4 xDist yDist reaction reverse

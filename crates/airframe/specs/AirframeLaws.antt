@@ -18,7 +18,7 @@ use Rattle.refusal.specs.declared.Refusal.the-variants as Refusal
 use Rattle.airframe.specs.declared.Signs.{Signs}
 use Rattle.airframe.specs.declared.Motor.{Motor}
 use Rattle.airframe.specs.declared.Rows.{Rows}
-use Rattle.airframe.specs.Airframe.{motor, column, divided, four, sumsOf, goodSum, goodSums, entries, zeros, refusalOf, matrixOf, motorsOf, flat, signs, table, signsAt, rowsFrom, motorAt, frame}
+use Rattle.airframe.specs.Airframe.{motor, column, divided, four, sumsOf, goodSum, goodSums, entries, zeros, refusalOf, matrixOf, motorsOf, flat, signs, table, signsAt, rowsFrom, frameMotor, frame}
 
 -- ---- a run of motors, from a place on
 module _ (l : List Float) (i : ℕ) where
@@ -140,7 +140,7 @@ module _ (first count : ℕ) (fits : first + count ≤ 8) where
 
   pub frame-on : (halfX halfY reaction dir : Float) (m : ℕ) → m < count
       → frame halfX halfY reaction dir (drop m (rowsFrom first count))
-      ≡ motorAt halfX halfY reaction dir (signsAt (first + m)) ∷ frame halfX halfY reaction dir (drop (m + 1) (rowsFrom first count))
+      ≡ frameMotor halfX halfY reaction dir (signsAt (first + m)) ∷ frame halfX halfY reaction dir (drop (m + 1) (rowsFrom first count))
   unfolding frame
   frame-on halfX halfY reaction dir m h =
       let p : m < length (rowsFrom first count) = rw length-rows h in

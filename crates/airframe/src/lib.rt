@@ -1,10 +1,10 @@
 // airframe/mod.rs: where a frame's motors stand, and the matrix that mixes them. The definitions and the functions from
-// `motor_of` to `mix` hold for any number of motors; a frame of four is an instance of them.
+// `read_motor` to `mix` hold for any number of motors; a frame of four is an instance of them.
 ghost use mathlib.Core.Path.{_≡_};
 ghost use Prim.Native.Nat.{_+_, _*_, _<_, _≤_};
 ghost use lib.Ieee.{nan};
 ghost use lib.ListN.{length, getD};
-ghost use Rattle.airframe.specs.Airframe.{signsAt, signed, motor, motorAt, flat, frame, rowsFrom, motorsOf, column, addSquares, divided, sumsOf, goodSum, goodSums, entries, zeros, refusalOf, matrixOf, dirOf, quad, quadX, quadP};
+ghost use Rattle.airframe.specs.Airframe.{signsAt, signed, motor, frameMotor, flat, frame, rowsFrom, motorsOf, column, addSquares, divided, sumsOf, goodSum, goodSums, entries, zeros, refusalOf, matrixOf, dirOf, quad, callQuadXBasic, callQuadPBasic};
 use refusal::Refusal;
 
 // What a frame gives: four numbers a motor, the motors in the Rust's order. The Rust makes a `MotorSetup` and asks it for
@@ -63,9 +63,9 @@ fn signed(sign: i8, distance: f32) -> f32
     if sign < 0 { -distance } else { distance }
 }
 
-fn motor_at(at: usize, half_x: f32, half_y: f32, reaction: f32, dir: f32) -> Motor
+fn frame_motor(at: usize, half_x: f32, half_y: f32, reaction: f32, dir: f32) -> Motor
     requires { ⌜ at < 8 ⌝ }
-    ensures { λ r. ⌜ r ≡ motorAt «half_x» «half_y» reaction dir (signsAt at) ⌝ }
+    ensures { λ r. ⌜ r ≡ frameMotor «half_x» «half_y» reaction dir (signsAt at) ⌝ }
 {
     let signs = signs_at(at);
     Motor {
@@ -90,7 +90,7 @@ fn place(
 {
     let mut m: usize = 0;
     while m < count {
-        let motor = motor_at(first + m, half_x, half_y, reaction, dir);
+        let motor = frame_motor(first + m, half_x, half_y, reaction, dir);
         let at = 3 * m;
         out[at] = motor.x;
         out[at + 1] = motor.y;
@@ -100,7 +100,7 @@ fn place(
 }
 
 // The motor whose three numbers start at `at`.
-fn motor_of(motors: &[f32], at: usize) -> Motor
+fn read_motor(motors: &[f32], at: usize) -> Motor
     requires { ⌜ at + 3 ≤ length (now motors) ⌝ }
     ensures { λ r. ⌜ r ≡ motor (getD (now (motors .entry)) at nan) (getD (now (motors .entry)) (at + 1) nan) (getD (now (motors .entry)) (at + 2) nan) ⌝ }
 {
@@ -157,7 +157,7 @@ fn row_sums(motors: &[f32]) -> Rows
     };
     let mut i: usize = 0;
     while 3 <= motors.len() - i {
-        s = add_squares(s, column(motor_of(motors, i)));
+        s = add_squares(s, column(read_motor(motors, i)));
         i += 3;
     }
     s
@@ -196,7 +196,7 @@ fn divide(motors: &[f32], s: Rows, out: &mut [f32])
     let mut i: usize = 0;
     let mut at: usize = 0;
     while 3 <= motors.len() - i {
-        let e = divided(column(motor_of(motors, i)), s);
+        let e = divided(column(read_motor(motors, i)), s);
         out[at] = e.roll;
         out[at + 1] = e.pitch;
         out[at + 2] = e.yaw;
@@ -260,7 +260,7 @@ fn quad(first: usize, x_dist: f32, y_dist: f32, reaction: f32, turned: bool) -> 
 
 // The X frame; `outspin` turns every propeller the other way round.
 pub fn quad_x_basic(x_dist: f32, y_dist: f32, reaction: f32, outspin: bool) -> Mixing
-    ensures { λ r. ⌜ r ≡ quadX «x_dist» «y_dist» reaction outspin ⌝ }
+    ensures { λ r. ⌜ r ≡ callQuadXBasic «x_dist» «y_dist» reaction outspin ⌝ }
 {
     quad(0, x_dist, y_dist, reaction, outspin)
 }
@@ -272,7 +272,7 @@ pub fn quad_p_basic(
     reaction: f32,
     reverse: bool,
 ) -> Mixing
-    ensures { λ r. ⌜ r ≡ quadP «x_motor_spacing» «y_motor_spacing» reaction reverse ⌝ }
+    ensures { λ r. ⌜ r ≡ callQuadPBasic «x_motor_spacing» «y_motor_spacing» reaction reverse ⌝ }
 {
     quad(4, x_motor_spacing, y_motor_spacing, reaction, reverse)
 }

@@ -17,7 +17,7 @@ use Rattle.angle_pid.specs.declared.lp_filter.LpFilter.the-variants as L
 use Rattle.angle_pid.specs.declared.lp_filter.LpFiltered.{LpFiltered}
 use Rattle.angle_pid.specs.declared.pid.Pid.{Pid}
 use Rattle.angle_pid.specs.declared.pid.PidConfig.{PidConfig}
-use Rattle.angle_pid.specs.declared.pid.PidMade.{PidMade}
+use Rattle.angle_pid.specs.declared.pid.PidChanged.{PidChanged}
 use Rattle.angle_pid.specs.declared.pid.PidUpdated.{PidUpdated}
 use Rattle.angle_pid.specs.declared.pid.PidStepped.{PidStepped}
 use Rattle.angle_pid.specs.Range.{rangeRefusal, wrapError, shifted, admits, limited}
@@ -65,8 +65,8 @@ withIntegral s on integral = pidOf (s .kp) (s .ki) (s .kd) (s .ts) integral on (
 unfoldable pub withParts : Pid → Range → Range → Range → LpFilter → Pid
 withParts s = pidOf (s .kp) (s .ki) (s .kd) (s .ts) (s .integral) (s .«integral_en») (s .«prev_error»)
 
-unfoldable pub configured : PidConfig → Float → Pid
-configured c ts = withParts (newPid (c .kp) (c .ki) (c .kd) (c .ideal) ts) (c .wrapping) (c .«output_limit») (c .«anti_windup») (newLpFilter (c .«lp_filter») ts)
+unfoldable pub withConfigPid : PidConfig → Float → Pid
+withConfigPid c ts = withParts (newPid (c .kp) (c .ki) (c .kd) (c .ideal) ts) (c .wrapping) (c .«output_limit») (c .«anti_windup») (newLpFilter (c .«lp_filter») ts)
 
 -- ---- one step, on an error that is wrapped already
 
@@ -103,52 +103,52 @@ stepPid s error ts =
 
 -- ---- the calls: refused, a constructor gives the all-zero state, and any other leaves the state
 
-abbrev pub made : Refusal → Pid → PidMade
+abbrev pub made : Refusal → Pid → PidChanged
 made why s = record { refusal = why; pid = s }
 
 abbrev pub updated : Refusal → Float → ℕ → Pid → PidUpdated
 updated why y steps s = record { refusal = why; y = y; steps = steps; pid = s }
 
-unfoldable pub kept : Refusal → Pid → Pid → PidMade
+unfoldable pub kept : Refusal → Pid → Pid → PidChanged
 kept why s next = cond (passes why) (made Refusal.None next) (made why s)
 
-unfoldable pub withConfigPid : PidConfig → Float → PidMade
-withConfigPid c ts = kept (configRefusal c) zeroPid (configured c ts)
+unfoldable pub callWithConfigPid : PidConfig → Float → PidChanged
+callWithConfigPid c ts = kept (configRefusal c) zeroPid (withConfigPid c ts)
 
-unfoldable pub setWrappingPid : Pid → Float → Float → PidMade
-setWrappingPid s min max = kept (first (pidRefusal s) (rangeRefusal (Range.On min max))) s (withParts s (Range.On min max) (s .«output_limit») (s .«anti_windup») (s .«lp_filter»))
+unfoldable pub callSetWrappingPid : Pid → Float → Float → PidChanged
+callSetWrappingPid s min max = kept (first (pidRefusal s) (rangeRefusal (Range.On min max))) s (withParts s (Range.On min max) (s .«output_limit») (s .«anti_windup») (s .«lp_filter»))
 
-unfoldable pub setOutputLimitPid : Pid → Float → Float → PidMade
-setOutputLimitPid s min max = kept (first (pidRefusal s) (rangeRefusal (Range.On min max))) s (withParts s (s .wrapping) (Range.On min max) (s .«anti_windup») (s .«lp_filter»))
+unfoldable pub callSetOutputLimitPid : Pid → Float → Float → PidChanged
+callSetOutputLimitPid s min max = kept (first (pidRefusal s) (rangeRefusal (Range.On min max))) s (withParts s (s .wrapping) (Range.On min max) (s .«anti_windup») (s .«lp_filter»))
 
-unfoldable pub setAntiWindupPid : Pid → Float → Float → PidMade
-setAntiWindupPid s min max = kept (first (pidRefusal s) (rangeRefusal (Range.On min max))) s (withParts s (s .wrapping) (s .«output_limit») (Range.On min max) (s .«lp_filter»))
+unfoldable pub callSetAntiWindupPid : Pid → Float → Float → PidChanged
+callSetAntiWindupPid s min max = kept (first (pidRefusal s) (rangeRefusal (Range.On min max))) s (withParts s (s .wrapping) (s .«output_limit») (Range.On min max) (s .«lp_filter»))
 
-unfoldable pub setLpFilterPid : Pid → Float → PidMade
-setLpFilterPid s tau = kept (first (pidRefusal s) (tauRefusal (Tau.On tau))) s (withParts s (s .wrapping) (s .«output_limit») (s .«anti_windup») (newLpFilter (Tau.On tau) (s .ts)))
+unfoldable pub callSetLpFilterPid : Pid → Float → PidChanged
+callSetLpFilterPid s tau = kept (first (pidRefusal s) (tauRefusal (Tau.On tau))) s (withParts s (s .wrapping) (s .«output_limit») (s .«anti_windup») (newLpFilter (Tau.On tau) (s .ts)))
 
 -- `set_gains` ignores `ideal`.
-unfoldable pub setGainsPid : Pid → Float → Float → Float → PidMade
-setGainsPid s kp ki kd = kept (pidRefusal s) s (withGains s kp ki kd)
+unfoldable pub callSetGainsPid : Pid → Float → Float → Float → PidChanged
+callSetGainsPid s kp ki kd = kept (pidRefusal s) s (withGains s kp ki kd)
 
-unfoldable pub resetIntegralToPid : Pid → Float → PidMade
-resetIntegralToPid s integral = kept (pidRefusal s) s (withIntegral s (s .«integral_en») integral)
+unfoldable pub callResetIntegralToPid : Pid → Float → PidChanged
+callResetIntegralToPid s integral = kept (pidRefusal s) s (withIntegral s (s .«integral_en») integral)
 
-unfoldable pub resetIntegralPid : Pid → PidMade
-resetIntegralPid s = resetIntegralToPid s F.zero
+unfoldable pub callResetIntegralPid : Pid → PidChanged
+callResetIntegralPid s = callResetIntegralToPid s F.zero
 
-unfoldable pub enableIntegralPid : Pid → Bool → PidMade
-enableIntegralPid s on = kept (pidRefusal s) s (withIntegral s on (s .integral))
+unfoldable pub callEnableIntegralPid : Pid → Bool → PidChanged
+callEnableIntegralPid s on = kept (pidRefusal s) s (withIntegral s on (s .integral))
 
-unfoldable pub enableResetIntegralPid : Pid → Bool → PidMade
-enableResetIntegralPid s on = kept (pidRefusal s) s (withIntegral s on F.zero)
+unfoldable pub callEnableResetIntegralPid : Pid → Bool → PidChanged
+callEnableResetIntegralPid s on = kept (pidRefusal s) s (withIntegral s on F.zero)
 
 -- the step after the wrapping, with the wrapping's count; refused, it answers with that count too
 unfoldable pub afterWrap : Pid → Wrapped → Float → PidUpdated
 afterWrap s w ts = cond (passes (w .refusal)) (updated Refusal.None (stepPid s (w .value) ts .y) (w .steps) (stepPid s (w .value) ts .pid)) (updated (w .refusal) F.zero (w .steps) s)
 
-unfoldable pub updateTsPid : Pid → Float → Float → PidUpdated
-updateTsPid s error ts = cond (passes (pidRefusal s)) (afterWrap s (wrapError (s .wrapping) error) ts) (updated (pidRefusal s) F.zero 0 s)
+unfoldable pub callUpdateTsPid : Pid → Float → Float → PidUpdated
+callUpdateTsPid s error ts = cond (passes (pidRefusal s)) (afterWrap s (wrapError (s .wrapping) error) ts) (updated (pidRefusal s) F.zero 0 s)
 
-unfoldable pub updatePid : Pid → Float → PidUpdated
-updatePid s error = updateTsPid s error (s .ts)
+unfoldable pub callUpdatePid : Pid → Float → PidUpdated
+callUpdatePid s error = callUpdateTsPid s error (s .ts)

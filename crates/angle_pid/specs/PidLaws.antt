@@ -20,14 +20,14 @@ use Rattle.angle_pid.specs.declared.lp_filter.LpFilter.{LpFilter}
 use Rattle.angle_pid.specs.declared.lp_filter.LpFilter.the-variants as LpFilter
 use Rattle.angle_pid.specs.declared.pid.Pid.{Pid}
 use Rattle.angle_pid.specs.declared.pid.PidConfig.{PidConfig}
-use Rattle.angle_pid.specs.declared.pid.PidMade.{PidMade}
+use Rattle.angle_pid.specs.declared.pid.PidChanged.{PidChanged}
 use Rattle.angle_pid.specs.Range.{rangeRefusal, wrapError, admits, limited}
 use Rattle.angle_pid.specs.LpFilter.{newLpFilter, storedTau, stepLpFilter}
-use Rattle.angle_pid.specs.Pid.{first, partsRefusal, pidRefusal, configRefusal, zeroPid, withParts, configured, movedIntegral, proportional, derivative, grown, nextIntegral, stepPid, kept, withConfigPid, setWrappingPid, setOutputLimitPid, setAntiWindupPid, setLpFilterPid, setGainsPid, resetIntegralPid, resetIntegralToPid, enableIntegralPid, enableResetIntegralPid, updated, afterWrap, updateTsPid}
+use Rattle.angle_pid.specs.Pid.{first, partsRefusal, pidRefusal, configRefusal, zeroPid, withParts, withConfigPid, movedIntegral, proportional, derivative, grown, nextIntegral, stepPid, kept, callWithConfigPid, callSetWrappingPid, callSetOutputLimitPid, callSetAntiWindupPid, callSetLpFilterPid, callSetGainsPid, callResetIntegralPid, callResetIntegralToPid, callEnableIntegralPid, callEnableResetIntegralPid, updated, afterWrap, callUpdateTsPid}
 
 -- ---- a refused call leaves the state, and a refused constructor gives the all-zero one
 
-abbrev pub Leaves : Pid → PidMade → Type 0
+abbrev pub Leaves : Pid → PidChanged → Type 0
 Leaves s r = (r .refusal ≡ Refusal.None → ⊥) → r .pid ≡ s
 
 kept-leaves : (why : Refusal) (s next : Pid) → Leaves s (kept why s next)
@@ -38,14 +38,14 @@ kept-leaves why s next = go (passes why) refl
     go true e h = absurd (h (simp e))
     go false e h = simp e
 
-pub config-leaves : (c : PidConfig) (ts : Float) → Leaves zeroPid (withConfigPid c ts)
-unfolding withConfigPid
+pub config-leaves : (c : PidConfig) (ts : Float) → Leaves zeroPid (callWithConfigPid c ts)
+unfolding callWithConfigPid
 config-leaves c ts = kept-leaves _ _ _
 
 pub setters-leave : (s : Pid) (a b c : Float) (on : Bool)
-    → Leaves s (setWrappingPid s a b) × Leaves s (setOutputLimitPid s a b) × Leaves s (setAntiWindupPid s a b) × Leaves s (setLpFilterPid s a)
-    × Leaves s (setGainsPid s a b c) × Leaves s (resetIntegralPid s) × Leaves s (resetIntegralToPid s a) × Leaves s (enableIntegralPid s on) × Leaves s (enableResetIntegralPid s on)
-unfolding setWrappingPid setOutputLimitPid setAntiWindupPid setLpFilterPid setGainsPid resetIntegralPid resetIntegralToPid enableIntegralPid enableResetIntegralPid
+    → Leaves s (callSetWrappingPid s a b) × Leaves s (callSetOutputLimitPid s a b) × Leaves s (callSetAntiWindupPid s a b) × Leaves s (callSetLpFilterPid s a)
+    × Leaves s (callSetGainsPid s a b c) × Leaves s (callResetIntegralPid s) × Leaves s (callResetIntegralToPid s a) × Leaves s (callEnableIntegralPid s on) × Leaves s (callEnableResetIntegralPid s on)
+unfolding callSetWrappingPid callSetOutputLimitPid callSetAntiWindupPid callSetLpFilterPid callSetGainsPid callResetIntegralPid callResetIntegralToPid callEnableIntegralPid callEnableResetIntegralPid
 setters-leave s a b c on =
     (kept-leaves _ _ _, kept-leaves _ _ _, kept-leaves _ _ _, kept-leaves _ _ _, kept-leaves _ _ _, kept-leaves _ _ _, kept-leaves _ _ _, kept-leaves _ _ _, kept-leaves _ _ _)
 
@@ -60,19 +60,19 @@ module _ (s : Pid) (w : Wrapped) (ts : Float) where
   after-settled h = simp h
 
 module _ (s : Pid) (error ts : Float) where
-  pub update-bad : passes (pidRefusal s) ≡ false → updateTsPid s error ts ≡ updated (pidRefusal s) F.zero 0 s
-  unfolding updateTsPid
+  pub update-bad : passes (pidRefusal s) ≡ false → callUpdateTsPid s error ts ≡ updated (pidRefusal s) F.zero 0 s
+  unfolding callUpdateTsPid
   update-bad h = simp h
 
-  pub update-good : passes (pidRefusal s) ≡ true → updateTsPid s error ts ≡ afterWrap s (wrapError (s .wrapping) error) ts
-  unfolding updateTsPid
+  pub update-good : passes (pidRefusal s) ≡ true → callUpdateTsPid s error ts ≡ afterWrap s (wrapError (s .wrapping) error) ts
+  unfolding callUpdateTsPid
   update-good h = simp h
 
   -- refused, y is +0 and the state is left
-  pub update-leaves : (updateTsPid s error ts .refusal ≡ Refusal.None → ⊥) → (updateTsPid s error ts .y ≡ F.zero) × (updateTsPid s error ts .pid ≡ s)
+  pub update-leaves : (callUpdateTsPid s error ts .refusal ≡ Refusal.None → ⊥) → (callUpdateTsPid s error ts .y ≡ F.zero) × (callUpdateTsPid s error ts .pid ≡ s)
   update-leaves h = go (passes (pidRefusal s)) refl (passes (wrapError (s .wrapping) error .refusal)) refl
     where
-      go : (b : Bool) → passes (pidRefusal s) ≡ b → (d : Bool) → passes (wrapError (s .wrapping) error .refusal) ≡ d → (updateTsPid s error ts .y ≡ F.zero) × (updateTsPid s error ts .pid ≡ s)
+      go : (b : Bool) → passes (pidRefusal s) ≡ b → (d : Bool) → passes (wrapError (s .wrapping) error .refusal) ≡ d → (callUpdateTsPid s error ts .y ≡ F.zero) × (callUpdateTsPid s error ts .pid ≡ s)
       go false e d k = simp (update-bad e) (refl, refl)
       go true e false k = simp (update-good e, after-refused s (wrapError (s .wrapping) error) ts k) (refl, refl)
       go true e true k = absurd (h (simp (update-good e, after-settled s (wrapError (s .wrapping) error) ts k)))
@@ -89,18 +89,18 @@ range-good s min max good on = go (lt min max) refl
     go false e = let bad : pidRefusal s ≡ Refusal.Range = simp (on, e) in cc
 
 module _ (s : Pid) (error ts : Float) (good : pidRefusal s ≡ Refusal.None) where
-  pub update-unwrapped : s .wrapping ≡ Range.Off → updateTsPid s error ts ≡ updated Refusal.None (stepPid s error ts .y) 0 (stepPid s error ts .pid)
-  unfolding updateTsPid afterWrap wrapError passes
+  pub update-unwrapped : s .wrapping ≡ Range.Off → callUpdateTsPid s error ts ≡ updated Refusal.None (stepPid s error ts .y) 0 (stepPid s error ts .pid)
+  unfolding callUpdateTsPid afterWrap wrapError passes
   update-unwrapped off = simp (good, off)
 
   module _ (min max : Float) (on : s .wrapping ≡ Range.On min max) where
     pub update-within : (y : Float) (k : ℕ) → RisesBy (lt max) min (max -f min) error k y → k ≤ 64
-        → updateTsPid s error ts ≡ updated Refusal.None (stepPid s y ts .y) k (stepPid s y ts .pid)
-    unfolding updateTsPid afterWrap wrapError passes
+        → callUpdateTsPid s error ts ≡ updated Refusal.None (stepPid s y ts .y) k (stepPid s y ts .pid)
+    unfolding callUpdateTsPid afterWrap wrapError passes
     update-within y k r h = simp (good, on, wrap-by-within lt error min max (range-good s min max good on) y k r h)
 
-    pub update-beyond : ((k : ℕ) (y : Float) → RisesBy (lt max) min (max -f min) error k y → 64 < k) → updateTsPid s error ts ≡ updated Refusal.Steps F.zero 64 s
-    unfolding updateTsPid afterWrap wrapError passes
+    pub update-beyond : ((k : ℕ) (y : Float) → RisesBy (lt max) min (max -f min) error k y → 64 < k) → callUpdateTsPid s error ts ≡ updated Refusal.Steps F.zero 64 s
+    unfolding callUpdateTsPid afterWrap wrapError passes
     update-beyond f = simp (good, on, wrap-by-beyond lt error min max (range-good s min max good on) f)
 
 -- ---- the integral
@@ -141,8 +141,8 @@ unfolding storedTau newLpFilter newLowpass lowpassOf
 new-tau Tau.Off ts = refl
 new-tau (Tau.On tau) ts = refl
 
-pub config-parts : (c : PidConfig) (ts : Float) → pidRefusal (configured c ts) ≡ configRefusal c
-unfolding pidRefusal configRefusal configured withParts
+pub config-parts : (c : PidConfig) (ts : Float) → pidRefusal (withConfigPid c ts) ≡ configRefusal c
+unfolding pidRefusal configRefusal withConfigPid withParts
 config-parts c ts = simp new-tau
 
 step-tau : (f : LpFilter) (x : Float) → storedTau (stepLpFilter f x .filter) ≡ storedTau f

@@ -6,7 +6,7 @@ use Rattle.float.specs.Float.{clampF}
 use Rattle.refusal.specs.declared.Refusal.{Refusal}
 use Rattle.refusal.specs.declared.Refusal.the-variants as Refusal
 use Rattle.func.specs.declared.Wrapped.{Wrapped}
-use Rattle.func.specs.Func.{settled, wrapBy}
+use Rattle.func.specs.Func.{settled, callWrapBy}
 use Rattle.angle_pid.specs.declared.range.Range.{Range}
 use Rattle.angle_pid.specs.declared.range.Range.the-variants.{Off, On}
 
@@ -18,7 +18,7 @@ rangeRefusal (On min max) = cond (lt min max) Refusal.None Refusal.Range
 -- Wrapping: error > max, not ≥; its update's result has the steps too.
 unfoldable pub wrapError : Range → Float → Wrapped
 wrapError Off error = settled error 0
-wrapError (On min max) error = wrapBy lt error min max
+wrapError (On min max) error = callWrapBy lt error min max
 
 -- Wrapping moves prev_error and integral when error − prev_error leaves the range.
 unfoldable pub shifted : Range → Float → Float → Float

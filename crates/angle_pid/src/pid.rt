@@ -1,6 +1,6 @@
 // The controller. Every call on it, when it was built by hand too, checks its ranges and its low pass's tau first.
 ghost use mathlib.Core.Path.{_≡_};
-ghost use Rattle.angle_pid.specs.Pid.{first, partsRefusal, pidRefusal, idealGain, withParts, zeroPid, grown, stepPid, kept, newPid, withConfigPid, setWrappingPid, setOutputLimitPid, setAntiWindupPid, setLpFilterPid, setGainsPid, resetIntegralPid, resetIntegralToPid, enableIntegralPid, enableResetIntegralPid, updateTsPid, updatePid};
+ghost use Rattle.angle_pid.specs.Pid.{first, partsRefusal, pidRefusal, idealGain, withParts, zeroPid, grown, stepPid, kept, newPid, callWithConfigPid, callSetWrappingPid, callSetOutputLimitPid, callSetAntiWindupPid, callSetLpFilterPid, callSetGainsPid, callResetIntegralPid, callResetIntegralToPid, callEnableIntegralPid, callEnableResetIntegralPid, callUpdateTsPid, callUpdatePid};
 use crate::lp_filter::LpFilter;
 use crate::lp_filter::Tau;
 use crate::range::Range;
@@ -32,7 +32,7 @@ pub struct PidConfig {
 }
 
 // What `with_config` and the setters give: refused, the constructor's state is all zero, and a setter's is as it was.
-pub struct PidMade {
+pub struct PidChanged {
     pub refusal: Refusal,
     pub pid: Pid,
 }
@@ -120,8 +120,8 @@ impl Pid {
         pid
     }
 
-    pub fn with_config(config: PidConfig, ts: f32) -> PidMade
-        ensures { λ r. ⌜ r ≡ withConfigPid config ts ⌝ }
+    pub fn with_config(config: PidConfig, ts: f32) -> PidChanged
+        ensures { λ r. ⌜ r ≡ callWithConfigPid config ts ⌝ }
     {
         let wrapping = config.wrapping;
         let output_limit = config.output_limit;
@@ -169,21 +169,21 @@ impl Pid {
     }
 
     // The state after a call that would make it `next`: refused, it stays.
-    fn keep(self, why: Refusal, next: Pid) -> PidMade
+    fn keep(self, why: Refusal, next: Pid) -> PidChanged
         ensures { λ r. ⌜ r ≡ kept why self next ⌝ }
     {
         if why.passes() {
             let refusal = Refusal::None;
-            return PidMade { refusal, pid: next };
+            return PidChanged { refusal, pid: next };
         }
-        PidMade {
+        PidChanged {
             refusal: why,
             pid: self,
         }
     }
 
-    pub fn set_wrapping(self, min: f32, max: f32) -> PidMade
-        ensures { λ r. ⌜ r ≡ setWrappingPid self min max ⌝ }
+    pub fn set_wrapping(self, min: f32, max: f32) -> PidChanged
+        ensures { λ r. ⌜ r ≡ callSetWrappingPid self min max ⌝ }
     {
         let range = Range::On { min, max };
         let output_limit = self.output_limit;
@@ -193,8 +193,8 @@ impl Pid {
         self.keep(first(self.refusal(), range.refusal()), next)
     }
 
-    pub fn set_output_limit(self, min: f32, max: f32) -> PidMade
-        ensures { λ r. ⌜ r ≡ setOutputLimitPid self min max ⌝ }
+    pub fn set_output_limit(self, min: f32, max: f32) -> PidChanged
+        ensures { λ r. ⌜ r ≡ callSetOutputLimitPid self min max ⌝ }
     {
         let range = Range::On { min, max };
         let wrapping = self.wrapping;
@@ -204,8 +204,8 @@ impl Pid {
         self.keep(first(self.refusal(), range.refusal()), next)
     }
 
-    pub fn set_anti_windup(self, min: f32, max: f32) -> PidMade
-        ensures { λ r. ⌜ r ≡ setAntiWindupPid self min max ⌝ }
+    pub fn set_anti_windup(self, min: f32, max: f32) -> PidChanged
+        ensures { λ r. ⌜ r ≡ callSetAntiWindupPid self min max ⌝ }
     {
         let range = Range::On { min, max };
         let wrapping = self.wrapping;
@@ -215,8 +215,8 @@ impl Pid {
         self.keep(first(self.refusal(), range.refusal()), next)
     }
 
-    pub fn set_lp_filter(self, tau: f32) -> PidMade
-        ensures { λ r. ⌜ r ≡ setLpFilterPid self tau ⌝ }
+    pub fn set_lp_filter(self, tau: f32) -> PidChanged
+        ensures { λ r. ⌜ r ≡ callSetLpFilterPid self tau ⌝ }
     {
         let asked = Tau::On(tau);
         let wrapping = self.wrapping;
@@ -227,8 +227,8 @@ impl Pid {
     }
 
     // The gains as they are given: the controller does not remember whether it was made in the ideal form.
-    pub fn set_gains(self, kp: f32, ki: f32, kd: f32) -> PidMade
-        ensures { λ r. ⌜ r ≡ setGainsPid self kp ki kd ⌝ }
+    pub fn set_gains(self, kp: f32, ki: f32, kd: f32) -> PidChanged
+        ensures { λ r. ⌜ r ≡ callSetGainsPid self kp ki kd ⌝ }
     {
         let mut next = self;
         next.kp = kp;
@@ -237,30 +237,30 @@ impl Pid {
         self.keep(self.refusal(), next)
     }
 
-    pub fn reset_integral(self) -> PidMade
-        ensures { λ r. ⌜ r ≡ resetIntegralPid self ⌝ }
+    pub fn reset_integral(self) -> PidChanged
+        ensures { λ r. ⌜ r ≡ callResetIntegralPid self ⌝ }
     {
         self.reset_integral_to(0.0)
     }
 
-    pub fn reset_integral_to(self, integral: f32) -> PidMade
-        ensures { λ r. ⌜ r ≡ resetIntegralToPid self integral ⌝ }
+    pub fn reset_integral_to(self, integral: f32) -> PidChanged
+        ensures { λ r. ⌜ r ≡ callResetIntegralToPid self integral ⌝ }
     {
         let mut next = self;
         next.integral = integral;
         self.keep(self.refusal(), next)
     }
 
-    pub fn enable_integral(self, enable: bool) -> PidMade
-        ensures { λ r. ⌜ r ≡ enableIntegralPid self enable ⌝ }
+    pub fn enable_integral(self, enable: bool) -> PidChanged
+        ensures { λ r. ⌜ r ≡ callEnableIntegralPid self enable ⌝ }
     {
         let mut next = self;
         next.integral_en = enable;
         self.keep(self.refusal(), next)
     }
 
-    pub fn enable_reset_integral(self, enable: bool) -> PidMade
-        ensures { λ r. ⌜ r ≡ enableResetIntegralPid self enable ⌝ }
+    pub fn enable_reset_integral(self, enable: bool) -> PidChanged
+        ensures { λ r. ⌜ r ≡ callEnableResetIntegralPid self enable ⌝ }
     {
         let mut next = self;
         next.integral_en = enable;
@@ -294,7 +294,7 @@ impl Pid {
     }
 
     pub fn update_ts(self, error: f32, ts: f32) -> PidUpdated
-        ensures { λ r. ⌜ r ≡ updateTsPid self error ts ⌝ }
+        ensures { λ r. ⌜ r ≡ callUpdateTsPid self error ts ⌝ }
     {
         let why = self.refusal();
         if !why.passes() {
@@ -328,7 +328,7 @@ impl Pid {
     }
 
     pub fn update(self, error: f32) -> PidUpdated
-        ensures { λ r. ⌜ r ≡ updatePid self error ⌝ }
+        ensures { λ r. ⌜ r ≡ callUpdatePid self error ⌝ }
     {
         self.update_ts(error, self.ts)
     }

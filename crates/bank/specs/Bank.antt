@@ -11,7 +11,7 @@ use Rattle.bank.specs.declared.lane.Answer.{Answer}
 use Rattle.bank.specs.declared.lane.Stepped.{Stepped}
 use Rattle.bank.specs.declared.Bank.{Bank}
 use Rattle.bank.specs.declared.Banked.{Banked}
-use Rattle.bank.specs.Lane.{closedLane, plain, laneStep}
+use Rattle.bank.specs.Lane.{closedLane, plain, callLane}
 
 unfoldable pub freshBank : Bank
 freshBank = record { lanes = replicate 8 closedLane }
@@ -34,5 +34,5 @@ banked a b = record { answer = a; bank = b }
 abbrev pub placed : Bank → ℕ → Stepped → Banked
 placed b i next = banked (next .answer) (put b i (next .lane))
 
-unfoldable pub bankStep : Bank → ℕ → Op → Banked
-bankStep b i op = cond (ltb 7 i) (banked (plain Refusal.Lane) b) (placed b i (laneStep (laneAt b i) op))
+unfoldable pub callBank : Bank → ℕ → Op → Banked
+callBank b i op = cond (ltb 7 i) (banked (plain Refusal.Lane) b) (placed b i (callLane (laneAt b i) op))

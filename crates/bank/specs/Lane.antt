@@ -11,7 +11,7 @@ use Rattle.rate_pid.specs.declared.RatePid.{RatePid}
 use Rattle.rate_pid.specs.declared.Changed.{Changed}
 use Rattle.rate_pid.specs.declared.Updated.{Updated}
 use Rattle.rate_pid.specs.declared.Terms.{Terms}
-use Rattle.rate_pid.specs.RatePid.{zeroTerms, zeroRate, newRate, badRate, changed, callSlew, callUpdate, callSetTs, callSetGains, callEnableIntegral, callResetIntegral, callGetTerms}
+use Rattle.rate_pid.specs.RatePid.{zeroTerms, zeroRatePid, newRatePid, badRatePid, changedRatePid, callSlewRatePid, callUpdateRatePid, callSetTsRatePid, callSetGainsRatePid, callEnableIntegralRatePid, callResetIntegralRatePid, callGetTermsRatePid}
 use Rattle.bank.specs.declared.lane.Lane.{Lane}
 use Rattle.bank.specs.declared.lane.SlewLimit.{SlewLimit}
 use Rattle.bank.specs.declared.lane.SlewLimit.the-variants.{Off, At}
@@ -23,7 +23,7 @@ use Rattle.bank.specs.declared.lane.Stepped.{Stepped}
 -- ---- lanes and answers
 
 unfoldable pub closedLane : Lane
-closedLane = record { «open» = false; pid = zeroRate }
+closedLane = record { «open» = false; pid = zeroRatePid }
 
 abbrev pub openLane : RatePid → Lane
 openLane s = record { «open» = true; pid = s }
@@ -39,8 +39,8 @@ abbrev pub stepped : Answer → Lane → Stepped
 stepped a l = record { answer = a; lane = l }
 
 -- a lane left as it is, and an answer without numbers
-abbrev pub told : Refusal → Lane → Stepped
-told why l = stepped (plain why) l
+abbrev pub plainStep : Refusal → Lane → Stepped
+plainStep why l = stepped (plain why) l
 
 -- ---- a controller's own call, made on an open lane
 
@@ -48,7 +48,7 @@ abbrev pub heard : Changed → Stepped
 heard next = stepped (plain (next .refusal)) (openLane (next .pid))
 
 abbrev pub running : RatePid → Stepped
-running s = heard (changed Refusal.None s)
+running s = heard (changedRatePid Refusal.None s)
 
 abbrev pub valued : Updated → Stepped
 valued next = stepped (answered (next .answer .refusal) (next .answer .y) zeroTerms) (openLane (next .pid))
@@ -60,23 +60,23 @@ read l t = stepped (answered (t .refusal) F.zero (t .terms)) l
 
 -- 9 comes before anything else
 unfoldable pub whenOpen : Lane → Stepped → Stepped
-whenOpen l next = cond (l .«open») next (told Refusal.Closed l)
+whenOpen l next = cond (l .«open») next (plainStep Refusal.Closed l)
 
 -- 3 for the stored limit
 unfoldable pub whenGood : Lane → Stepped → Stepped
-whenGood l next = cond (badRate (l .pid)) (told Refusal.Slew l) next
+whenGood l next = cond (badRatePid (l .pid)) (plainStep Refusal.Slew l) next
 
 -- a new controller, with a limiter if wanted: 3 for the given limit
 unfoldable pub opened : Lane → RatePid → SlewLimit → Stepped
 opened l s Off = running s
-opened l s (At limit) = cond (badLimit limit) (told Refusal.Slew l) (heard (callSlew s limit))
+opened l s (At limit) = cond (badLimit limit) (plainStep Refusal.Slew l) (heard (callSlewRatePid s limit))
 
-unfoldable pub laneStep : Lane → Op → Stepped
-laneStep l (Open kp ki kd tau dt slew) = cond (l .«open») (told Refusal.Open l) (whenGood l (opened l (newRate kp ki kd tau dt) slew))
-laneStep l Close = whenOpen l (whenGood l (told Refusal.None closedLane))
-laneStep l (Update r m p) = whenOpen l (valued (callUpdate (l .pid) r m p))
-laneStep l (SetTs ts) = whenOpen l (heard (callSetTs (l .pid) ts))
-laneStep l (SetGains kp ki kd) = whenOpen l (heard (callSetGains (l .pid) kp ki kd))
-laneStep l (EnableIntegral on) = whenOpen l (heard (callEnableIntegral (l .pid) on))
-laneStep l ResetIntegral = whenOpen l (heard (callResetIntegral (l .pid)))
-laneStep l ReadTerms = whenOpen l (read l (callGetTerms (l .pid)))
+unfoldable pub callLane : Lane → Op → Stepped
+callLane l (Open kp ki kd tau dt slew) = cond (l .«open») (plainStep Refusal.Open l) (whenGood l (opened l (newRatePid kp ki kd tau dt) slew))
+callLane l Close = whenOpen l (whenGood l (plainStep Refusal.None closedLane))
+callLane l (Update r m p) = whenOpen l (valued (callUpdateRatePid (l .pid) r m p))
+callLane l (SetTs ts) = whenOpen l (heard (callSetTsRatePid (l .pid) ts))
+callLane l (SetGains kp ki kd) = whenOpen l (heard (callSetGainsRatePid (l .pid) kp ki kd))
+callLane l (EnableIntegral on) = whenOpen l (heard (callEnableIntegralRatePid (l .pid) on))
+callLane l ResetIntegral = whenOpen l (heard (callResetIntegralRatePid (l .pid)))
+callLane l ReadTerms = whenOpen l (read l (callGetTermsRatePid (l .pid)))

@@ -11,7 +11,7 @@ use Rattle.rate_pid.specs.declared.RatePid.{RatePid}
 use Rattle.rate_pid.specs.declared.Changed.{Changed}
 use Rattle.rate_pid.specs.declared.Updated.{Updated}
 use Rattle.rate_pid.specs.declared.Terms.{Terms}
-use Rattle.rate_pid.specs.RatePid.{newRate, badRate, changed, guarded, callSlew, callUpdate, callSetTs, callSetGains, callEnableIntegral, callResetIntegral, callGetTerms}
+use Rattle.rate_pid.specs.RatePid.{newRatePid, badRatePid, changedRatePid, guarded, callSlewRatePid, callUpdateRatePid, callSetTsRatePid, callSetGainsRatePid, callEnableIntegralRatePid, callResetIntegralRatePid, callGetTermsRatePid}
 use Rattle.rate_pid.specs.RatePidLaws.{update-refused, update-accepted, step-limit, new-limit, slew-accepted, Bounded, Frozen, Stood, update-frozen, zero-bounded, new-bounded, slew-bounded, update-bounded, set-ts-bounded, set-gains-bounded, enable-integral-bounded, reset-integral-bounded}
 use Rattle.bank.specs.declared.lane.Lane.{Lane}
 use Rattle.bank.specs.declared.lane.SlewLimit.{SlewLimit}
@@ -19,39 +19,39 @@ use Rattle.bank.specs.declared.lane.SlewLimit.the-variants.{Off, At}
 use Rattle.bank.specs.declared.lane.Op.{Op}
 use Rattle.bank.specs.declared.lane.Op.the-variants.{Open, Close, Update, SetTs, SetGains, EnableIntegral, ResetIntegral, ReadTerms}
 use Rattle.bank.specs.declared.lane.Stepped.{Stepped}
-use Rattle.bank.specs.Lane.{closedLane, openLane, plain, told, heard, valued, read, running, whenOpen, whenGood, opened, laneStep}
+use Rattle.bank.specs.Lane.{closedLane, openLane, plain, plainStep, heard, valued, read, running, whenOpen, whenGood, opened, callLane}
 
 -- what holds at both ends of a test holds of what it picks
-when-open-has : (P : Stepped → Type 0) (l : Lane) (next : Stepped) → (l .«open» ≡ true → P next) → P (told Refusal.Closed l) → P (whenOpen l next)
+when-open-has : (P : Stepped → Type 0) (l : Lane) (next : Stepped) → (l .«open» ≡ true → P next) → P (plainStep Refusal.Closed l) → P (whenOpen l next)
 unfolding whenOpen
 when-open-has P l next h g = go (l .«open») refl
   where
-    go : (t : Bool) → l .«open» ≡ t → P (cond t next (told Refusal.Closed l))
+    go : (t : Bool) → l .«open» ≡ t → P (cond t next (plainStep Refusal.Closed l))
     go true e = h e
     go false e = g
 
-when-good-has : (P : Stepped → Type 0) (l : Lane) (next : Stepped) → P next → P (told Refusal.Slew l) → P (whenGood l next)
+when-good-has : (P : Stepped → Type 0) (l : Lane) (next : Stepped) → P next → P (plainStep Refusal.Slew l) → P (whenGood l next)
 unfolding whenGood
-when-good-has P l next h g = go (badRate (l .pid))
+when-good-has P l next h g = go (badRatePid (l .pid))
   where
-    go : (t : Bool) → P (cond t (told Refusal.Slew l) next)
+    go : (t : Bool) → P (cond t (plainStep Refusal.Slew l) next)
     go true = g
     go false = h
 
 opened-has : (P : Stepped → Type 0) (l : Lane) (s : RatePid) (slew : SlewLimit)
-    → P (running s) → ((limit : Float) → badLimit limit ≡ false → P (heard (callSlew s limit))) → P (told Refusal.Slew l) → P (opened l s slew)
+    → P (running s) → ((limit : Float) → badLimit limit ≡ false → P (heard (callSlewRatePid s limit))) → P (plainStep Refusal.Slew l) → P (opened l s slew)
 unfolding opened
 opened-has P l s Off h f g = h
 opened-has P l s (At limit) h f g = go (badLimit limit) refl
   where
-    go : (t : Bool) → badLimit limit ≡ t → P (cond t (told Refusal.Slew l) (heard (callSlew s limit)))
+    go : (t : Bool) → badLimit limit ≡ t → P (cond t (plainStep Refusal.Slew l) (heard (callSlewRatePid s limit)))
     go true e = g
     go false e = f limit e
 
-open-has : (P : Stepped → Type 0) (l : Lane) (next : Stepped) → P next → P (told Refusal.Open l) → P (told Refusal.Slew l) → P (cond (l .«open») (told Refusal.Open l) (whenGood l next))
+open-has : (P : Stepped → Type 0) (l : Lane) (next : Stepped) → P next → P (plainStep Refusal.Open l) → P (plainStep Refusal.Slew l) → P (cond (l .«open») (plainStep Refusal.Open l) (whenGood l next))
 open-has P l next h f g = go (l .«open»)
   where
-    go : (t : Bool) → P (cond t (told Refusal.Open l) (whenGood l next))
+    go : (t : Bool) → P (cond t (plainStep Refusal.Open l) (whenGood l next))
     go true = f
     go false = when-good-has P l next h g
 
@@ -63,7 +63,7 @@ limitRefusal (At limit) = cond (badLimit limit) Refusal.Slew Refusal.None
 
 -- 3 for the stored limit, or what the call itself meets
 abbrev pub storedRefusal : Lane → Refusal → Refusal
-storedRefusal l own = cond (badRate (l .pid)) Refusal.Slew own
+storedRefusal l own = cond (badRatePid (l .pid)) Refusal.Slew own
 
 -- any other call than `open`
 abbrev pub openRefusal : Lane → Refusal
@@ -79,7 +79,7 @@ laneRefusal l (EnableIntegral on) = openRefusal l
 laneRefusal l ResetIntegral = openRefusal l
 laneRefusal l ReadTerms = openRefusal l
 
-opened-refusal : (l : Lane) (s : RatePid) (slew : SlewLimit) → badRate s ≡ false → opened l s slew .answer .refusal ≡ limitRefusal slew
+opened-refusal : (l : Lane) (s : RatePid) (slew : SlewLimit) → badRatePid s ≡ false → opened l s slew .answer .refusal ≡ limitRefusal slew
 unfolding opened
 opened-refusal l s Off g = refl
 opened-refusal l s (At limit) g = go (badLimit limit) refl
@@ -94,9 +94,9 @@ why s = s .answer .refusal
 abbrev whyChanged : Changed → Refusal
 whyChanged c = c .refusal
 
-pub step-refusal : (l : Lane) (op : Op) → laneStep l op .answer .refusal ≡ laneRefusal l op
-unfolding laneStep laneRefusal whenOpen whenGood callSetTs callSetGains callEnableIntegral callResetIntegral callUpdate callGetTerms guarded
-step-refusal l (Open kp ki kd tau dt slew) = simp (read-picked why, opened-refusal l (newRate kp ki kd tau dt) slew (new-limit kp ki kd tau dt))
+pub step-refusal : (l : Lane) (op : Op) → callLane l op .answer .refusal ≡ laneRefusal l op
+unfolding callLane laneRefusal whenOpen whenGood callSetTsRatePid callSetGainsRatePid callEnableIntegralRatePid callResetIntegralRatePid callUpdateRatePid callGetTermsRatePid guarded
+step-refusal l (Open kp ki kd tau dt slew) = simp (read-picked why, opened-refusal l (newRatePid kp ki kd tau dt) slew (new-limit kp ki kd tau dt))
 step-refusal l Close = simp (read-picked why)
 step-refusal l (Update r m p) = simp (read-picked why, read-picked (λ (u : Updated). u .answer .refusal))
 step-refusal l (SetTs ts) = simp (read-picked why, read-picked whyChanged)
@@ -106,11 +106,11 @@ step-refusal l ResetIntegral = simp (read-picked why, read-picked whyChanged)
 step-refusal l ReadTerms = simp (read-picked why, read-picked (λ (t : Terms). t .refusal))
 
 -- an update leaves what the next one meets
-pub update-refusal-kept : (l : Lane) (r m p : Float) → openRefusal (laneStep l (Update r m p) .lane) ≡ openRefusal l
-unfolding laneStep whenOpen
-update-refusal-kept l r m p = go (l .«open») (badRate (l .pid)) refl refl
+pub update-refusal-kept : (l : Lane) (r m p : Float) → openRefusal (callLane l (Update r m p) .lane) ≡ openRefusal l
+unfolding callLane whenOpen
+update-refusal-kept l r m p = go (l .«open») (badRatePid (l .pid)) refl refl
   where
-    go : (o b : Bool) → l .«open» ≡ o → badRate (l .pid) ≡ b → openRefusal (laneStep l (Update r m p) .lane) ≡ openRefusal l
+    go : (o b : Bool) → l .«open» ≡ o → badRatePid (l .pid) ≡ b → openRefusal (callLane l (Update r m p) .lane) ≡ openRefusal l
     go false b eo eb = simp eo
     go true true eo eb = simp (eo, update-refused (l .pid) eb)
     go true false eo eb = simp (eo, update-accepted (l .pid) eb, step-limit (l .pid))
@@ -122,8 +122,8 @@ pub record Leaves (l : Lane) (next : Stepped) : Type 0 where
   pub lane : (next .answer .refusal ≡ Refusal.None → ⊥) → next .lane ≡ l
   pub answer : (next .answer .refusal ≡ Refusal.None → ⊥) → next .answer ≡ plain (next .answer .refusal)
 
-told-leaves : (l : Lane) (why : Refusal) → Leaves l (told why l)
-told-leaves l why = record { lane = λ k. refl; answer = λ k. refl }
+plain-leaves : (l : Lane) (why : Refusal) → Leaves l (plainStep why l)
+plain-leaves l why = record { lane = λ k. refl; answer = λ k. refl }
 
 -- where nothing is refused, nothing is asked
 passed : (l : Lane) (next : Stepped) → next .answer .refusal ≡ Refusal.None → Leaves l next
@@ -135,45 +135,45 @@ module _ (l : Lane) (o : l .«open» ≡ true) where
   is-open = ap (λ (t : Bool). record { «open» = t; pid = l .pid }) (sym o)
 
   -- a setter of the controller, which its stored limit alone refuses
-  guarded-leaves : (s : RatePid) → Leaves l (heard (guarded (l .pid) (changed Refusal.None s)))
+  guarded-leaves : (s : RatePid) → Leaves l (heard (guarded (l .pid) (changedRatePid Refusal.None s)))
   unfolding guarded
-  guarded-leaves s = go (badRate (l .pid))
+  guarded-leaves s = go (badRatePid (l .pid))
     where
-      go : (t : Bool) → Leaves l (heard (cond t (changed Refusal.Slew (l .pid)) (changed Refusal.None s)))
+      go : (t : Bool) → Leaves l (heard (cond t (changedRatePid Refusal.Slew (l .pid)) (changedRatePid Refusal.None s)))
       go true = record { lane = λ k. is-open; answer = λ k. refl }
       go false = passed l _ refl
 
-  update-leaves : (r m p : Float) → Leaves l (valued (callUpdate (l .pid) r m p))
-  unfolding callUpdate
-  update-leaves r m p = go (badRate (l .pid)) refl
+  update-leaves : (r m p : Float) → Leaves l (valued (callUpdateRatePid (l .pid) r m p))
+  unfolding callUpdateRatePid
+  update-leaves r m p = go (badRatePid (l .pid)) refl
     where
-      go : (t : Bool) → badRate (l .pid) ≡ t → Leaves l (valued (callUpdate (l .pid) r m p))
+      go : (t : Bool) → badRatePid (l .pid) ≡ t → Leaves l (valued (callUpdateRatePid (l .pid) r m p))
       go true e = record { lane = λ k. simp e is-open; answer = λ k. simp e }
       go false e = passed l _ (simp e)
 
-terms-leave : (l : Lane) → Leaves l (read l (callGetTerms (l .pid)))
-unfolding callGetTerms
-terms-leave l = go (badRate (l .pid)) refl
+terms-leave : (l : Lane) → Leaves l (read l (callGetTermsRatePid (l .pid)))
+unfolding callGetTermsRatePid
+terms-leave l = go (badRatePid (l .pid)) refl
   where
-    go : (t : Bool) → badRate (l .pid) ≡ t → Leaves l (read l (callGetTerms (l .pid)))
+    go : (t : Bool) → badRatePid (l .pid) ≡ t → Leaves l (read l (callGetTermsRatePid (l .pid)))
     go true e = record { lane = λ k. refl; answer = λ k. simp e }
     go false e = passed l _ (simp e)
 
-pub step-leaves : (l : Lane) (op : Op) → Leaves l (laneStep l op)
-unfolding laneStep callSetTs callSetGains callEnableIntegral callResetIntegral
+pub step-leaves : (l : Lane) (op : Op) → Leaves l (callLane l op)
+unfolding callLane callSetTsRatePid callSetGainsRatePid callEnableIntegralRatePid callResetIntegralRatePid
 step-leaves l (Open kp ki kd tau dt slew) =
     open-has (Leaves l) l _
-    (opened-has (Leaves l) l (newRate kp ki kd tau dt) slew (passed l _ refl)
+    (opened-has (Leaves l) l (newRatePid kp ki kd tau dt) slew (passed l _ refl)
     (λ limit g. passed l _ (ap (λ (c : Changed). c .refusal) (slew-accepted _ (new-limit kp ki kd tau dt) limit g)))
-    (told-leaves l _))
-    (told-leaves l _) (told-leaves l _)
-step-leaves l Close = when-open-has (Leaves l) l _ (λ o. when-good-has (Leaves l) l _ (passed l _ refl) (told-leaves l _)) (told-leaves l _)
-step-leaves l (Update r m p) = when-open-has (Leaves l) l _ (λ o. update-leaves l o r m p) (told-leaves l _)
-step-leaves l (SetTs ts) = when-open-has (Leaves l) l _ (λ o. guarded-leaves l o _) (told-leaves l _)
-step-leaves l (SetGains kp ki kd) = when-open-has (Leaves l) l _ (λ o. guarded-leaves l o _) (told-leaves l _)
-step-leaves l (EnableIntegral on) = when-open-has (Leaves l) l _ (λ o. guarded-leaves l o _) (told-leaves l _)
-step-leaves l ResetIntegral = when-open-has (Leaves l) l _ (λ o. guarded-leaves l o _) (told-leaves l _)
-step-leaves l ReadTerms = when-open-has (Leaves l) l _ (λ o. terms-leave l) (told-leaves l _)
+    (plain-leaves l _))
+    (plain-leaves l _) (plain-leaves l _)
+step-leaves l Close = when-open-has (Leaves l) l _ (λ o. when-good-has (Leaves l) l _ (passed l _ refl) (plain-leaves l _)) (plain-leaves l _)
+step-leaves l (Update r m p) = when-open-has (Leaves l) l _ (λ o. update-leaves l o r m p) (plain-leaves l _)
+step-leaves l (SetTs ts) = when-open-has (Leaves l) l _ (λ o. guarded-leaves l o _) (plain-leaves l _)
+step-leaves l (SetGains kp ki kd) = when-open-has (Leaves l) l _ (λ o. guarded-leaves l o _) (plain-leaves l _)
+step-leaves l (EnableIntegral on) = when-open-has (Leaves l) l _ (λ o. guarded-leaves l o _) (plain-leaves l _)
+step-leaves l ResetIntegral = when-open-has (Leaves l) l _ (λ o. guarded-leaves l o _) (plain-leaves l _)
+step-leaves l ReadTerms = when-open-has (Leaves l) l _ (λ o. terms-leave l) (plain-leaves l _)
 
 -- ---- the integral is NaN or from −1 to 1 in a closed lane, and every call keeps it so
 
@@ -187,8 +187,8 @@ pub closed-bounded : BoundedLane closedLane
 unfolding closedLane
 closed-bounded = zero-bounded
 
-pub step-bounded : (l : Lane) (op : Op) → BoundedLane l → BoundedLane (laneStep l op .lane)
-unfolding laneStep
+pub step-bounded : (l : Lane) (op : Op) → BoundedLane l → BoundedLane (callLane l op .lane)
+unfolding callLane
 step-bounded l (Open kp ki kd tau dt slew) b =
     let made = new-bounded kp ki kd tau dt in
     open-has Keeps l _ (opened-has Keeps l _ slew made (λ limit g. slew-bounded _ made limit) b) b b
@@ -202,6 +202,6 @@ step-bounded l ReadTerms b = when-open-has Keeps l _ (λ o. b) b
 
 -- ---- a frozen update leaves the integral and the damping filter
 
-pub lane-frozen : (l : Lane) (r m p : Float) → Frozen (l .pid) r m → Stood (l .pid) (laneStep l (Update r m p) .lane .pid)
-unfolding laneStep
+pub lane-frozen : (l : Lane) (r m p : Float) → Frozen (l .pid) r m → Stood (l .pid) (callLane l (Update r m p) .lane .pid)
+unfolding callLane
 lane-frozen l r m p h = when-open-has (λ (next : Stepped). Stood (l .pid) (next .lane .pid)) l _ (λ o. update-frozen (l .pid) r m p h) (refl, refl)

@@ -9,11 +9,11 @@ use Rattle.float.specs.FloatLaws.{Within}
 use Rattle.bank.specs.declared.lane.Lane.{Lane}
 use Rattle.bank.specs.declared.lane.Op.{Op}
 use Rattle.bank.specs.declared.Bank.{Bank}
-use Rattle.bank.specs.Lane.{laneStep}
+use Rattle.bank.specs.Lane.{callLane}
 use Rattle.bank.specs.LaneLaws.{BoundedLane, closed-bounded, step-bounded}
-use Rattle.bank.specs.Single.{Single, none, singleMachine, singleStep, singleRun, singleAfter}
+use Rattle.bank.specs.Single.{Single, none, singleMachine, callSingle, singleRun, singleAfter}
 use Rattle.bank.specs.SingleLaws.{laneOf, Good, step-as}
-use Rattle.bank.specs.Bank.{freshBank, Eight, laneAt, bankStep}
+use Rattle.bank.specs.Bank.{freshBank, Eight, laneAt, callBank}
 use Rattle.bank.specs.BankLaws.{fresh-eight, fresh-closed, step-eight, named, others}
 use Rattle.bank.specs.Runs.{bankMachine, run, after, laneMachine, laneRun, laneAfter}
 
@@ -46,8 +46,8 @@ module _ (L : ℕ) (low : L ≤ 7) where
       record {
         sound = λ b q n. step-eight b (q .lane) (q .thing) n;
         named = λ b q. refl;
-        answer = λ b q n e. subst (λ (i : ℕ). bankStep b i (q .thing) .answer ≡ laneStep (laneAt b L) (q .thing) .answer) e (named b L (q .thing) low n .0);
-        next = λ b q n e. subst (λ (i : ℕ). laneAt (bankStep b i (q .thing) .bank) L ≡ laneStep (laneAt b L) (q .thing) .lane) e (named b L (q .thing) low n .1);
+        answer = λ b q n e. subst (λ (i : ℕ). callBank b i (q .thing) .answer ≡ callLane (laneAt b L) (q .thing) .answer) e (named b L (q .thing) low n .0);
+        next = λ b q n e. subst (λ (i : ℕ). laneAt (callBank b i (q .thing) .bank) L ≡ callLane (laneAt b L) (q .thing) .lane) e (named b L (q .thing) low n .1);
         others = λ b q n e. others b (q .lane) (q .thing) L e;
       }
 

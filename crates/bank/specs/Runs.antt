@@ -6,11 +6,11 @@ use Rattle.bank.specs.declared.lane.Lane.{Lane}
 use Rattle.bank.specs.declared.lane.Op.{Op}
 use Rattle.bank.specs.declared.lane.Answer.{Answer}
 use Rattle.bank.specs.declared.Bank.{Bank}
-use Rattle.bank.specs.Lane.{laneStep}
-use Rattle.bank.specs.Bank.{bankStep}
+use Rattle.bank.specs.Lane.{callLane}
+use Rattle.bank.specs.Bank.{callBank}
 
 abbrev pub bankMachine : Machine Bank (For Op) (For Answer)
-bankMachine = record { answer = λ b q. for (q .lane) (bankStep b (q .lane) (q .thing) .answer); next = λ b q. bankStep b (q .lane) (q .thing) .bank }
+bankMachine = record { answer = λ b q. for (q .lane) (callBank b (q .lane) (q .thing) .answer); next = λ b q. callBank b (q .lane) (q .thing) .bank }
 
 -- the answers of a run
 abbrev pub run : Bank → List (For Op) → List (For Answer)
@@ -21,7 +21,7 @@ abbrev pub after : Bank → List (For Op) → Bank
 after b calls = left bankMachine b calls
 
 abbrev pub laneMachine : Machine Lane Op Answer
-laneMachine = record { answer = λ l op. laneStep l op .answer; next = λ l op. laneStep l op .lane }
+laneMachine = record { answer = λ l op. callLane l op .answer; next = λ l op. callLane l op .lane }
 
 -- a lane by itself: its answers to a list of calls, and the lane that they leave
 abbrev pub laneRun : Lane → List Op → List Answer

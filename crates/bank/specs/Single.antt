@@ -8,7 +8,7 @@ use Rattle.refusal.specs.declared.Refusal.the-variants as Refusal
 use Rattle.lanes.specs.Runs.{Machine, answers, left}
 use Rattle.filters.specs.SlewRate.{badLimit}
 use Rattle.rate_pid.specs.declared.RatePid.{RatePid}
-use Rattle.rate_pid.specs.RatePid.{zeroTerms, stepRate, totalOf, newRate, limitRate, tsRate, gainsRate, enableRate, resetRate}
+use Rattle.rate_pid.specs.RatePid.{zeroTerms, stepRatePid, totalOf, newRatePid, slewRatePid, setTsRatePid, setGainsRatePid, enableIntegralRatePid, resetIntegralRatePid}
 use Rattle.bank.specs.declared.lane.SlewLimit.{SlewLimit}
 use Rattle.bank.specs.declared.lane.SlewLimit.the-variants.{Off, At}
 use Rattle.bank.specs.declared.lane.Op.{Op}
@@ -30,30 +30,30 @@ says why c = record { answer = plain why; single = c }
 
 unfoldable pub newSingle : RatePid → SlewLimit → Next
 newSingle s Off = says Refusal.None (one s)
-newSingle s (At limit) = cond (badLimit limit) (says Refusal.Slew none) (says Refusal.None (one (limitRate s limit)))
+newSingle s (At limit) = cond (badLimit limit) (says Refusal.Slew none) (says Refusal.None (one (slewRatePid s limit)))
 
-unfoldable pub singleStep : Single → Op → Next
-singleStep none (Open kp ki kd tau dt slew) = newSingle (newRate kp ki kd tau dt) slew
-singleStep none Close = says Refusal.Closed none
-singleStep none (Update r m p) = says Refusal.Closed none
-singleStep none (SetTs ts) = says Refusal.Closed none
-singleStep none (SetGains kp ki kd) = says Refusal.Closed none
-singleStep none (EnableIntegral on) = says Refusal.Closed none
-singleStep none ResetIntegral = says Refusal.Closed none
-singleStep none ReadTerms = says Refusal.Closed none
-singleStep (one s) (Open kp ki kd tau dt slew) = says Refusal.Open (one s)
-singleStep (one s) Close = says Refusal.None none
-singleStep (one s) (Update r m p) =
-    let next = stepRate s r m p in
+unfoldable pub callSingle : Single → Op → Next
+callSingle none (Open kp ki kd tau dt slew) = newSingle (newRatePid kp ki kd tau dt) slew
+callSingle none Close = says Refusal.Closed none
+callSingle none (Update r m p) = says Refusal.Closed none
+callSingle none (SetTs ts) = says Refusal.Closed none
+callSingle none (SetGains kp ki kd) = says Refusal.Closed none
+callSingle none (EnableIntegral on) = says Refusal.Closed none
+callSingle none ResetIntegral = says Refusal.Closed none
+callSingle none ReadTerms = says Refusal.Closed none
+callSingle (one s) (Open kp ki kd tau dt slew) = says Refusal.Open (one s)
+callSingle (one s) Close = says Refusal.None none
+callSingle (one s) (Update r m p) =
+    let next = stepRatePid s r m p in
     record { answer = answered Refusal.None (totalOf (next .terms)) zeroTerms; single = one next }
-singleStep (one s) (SetTs ts) = says Refusal.None (one (tsRate s ts))
-singleStep (one s) (SetGains kp ki kd) = says Refusal.None (one (gainsRate s kp ki kd))
-singleStep (one s) (EnableIntegral on) = says Refusal.None (one (enableRate s on))
-singleStep (one s) ResetIntegral = says Refusal.None (one (resetRate s))
-singleStep (one s) ReadTerms = record { answer = answered Refusal.None F.zero (s .terms); single = one s }
+callSingle (one s) (SetTs ts) = says Refusal.None (one (setTsRatePid s ts))
+callSingle (one s) (SetGains kp ki kd) = says Refusal.None (one (setGainsRatePid s kp ki kd))
+callSingle (one s) (EnableIntegral on) = says Refusal.None (one (enableIntegralRatePid s on))
+callSingle (one s) ResetIntegral = says Refusal.None (one (resetIntegralRatePid s))
+callSingle (one s) ReadTerms = record { answer = answered Refusal.None F.zero (s .terms); single = one s }
 
 abbrev pub singleMachine : Machine Single Op Answer
-singleMachine = record { answer = λ c op. singleStep c op .answer; next = λ c op. singleStep c op .single }
+singleMachine = record { answer = λ c op. callSingle c op .answer; next = λ c op. callSingle c op .single }
 
 -- its answers to a list of calls
 abbrev pub singleRun : Single → List Op → List Answer

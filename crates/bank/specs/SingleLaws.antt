@@ -4,7 +4,7 @@ use mathlib.Core.Path.{_≡_, refl, _∙_}
 use mathlib.Core.Bool.{Bool, true, false}
 use Rattle.filters.specs.SlewRate.{badLimit}
 use Rattle.rate_pid.specs.declared.RatePid.{RatePid}
-use Rattle.rate_pid.specs.RatePid.{newRate, badRate, callSetTs, callSetGains, callEnableIntegral, callResetIntegral}
+use Rattle.rate_pid.specs.RatePid.{newRatePid, badRatePid, callSetTsRatePid, callSetGainsRatePid, callEnableIntegralRatePid, callResetIntegralRatePid}
 use Rattle.rate_pid.specs.RatePidLaws.{guard-passed, update-accepted, get-terms-accepted, slew-accepted, zero-limit, new-limit, step-limit, limit-limit, ts-limit, gains-limit, enable-limit, reset-limit}
 use Rattle.bank.specs.declared.lane.Lane.{Lane}
 use Rattle.bank.specs.declared.lane.SlewLimit.{SlewLimit}
@@ -12,8 +12,8 @@ use Rattle.bank.specs.declared.lane.SlewLimit.the-variants.{Off, At}
 use Rattle.bank.specs.declared.lane.Op.{Op}
 use Rattle.bank.specs.declared.lane.Op.the-variants.{Open, Close, Update, SetTs, SetGains, EnableIntegral, ResetIntegral, ReadTerms}
 use Rattle.bank.specs.declared.lane.Stepped.{Stepped}
-use Rattle.bank.specs.Lane.{closedLane, openLane, stepped, whenOpen, whenGood, opened, laneStep}
-use Rattle.bank.specs.Single.{Single, none, one, Next, newSingle, singleStep}
+use Rattle.bank.specs.Lane.{closedLane, openLane, stepped, whenOpen, whenGood, opened, callLane}
+use Rattle.bank.specs.Single.{Single, none, one, Next, newSingle, callSingle}
 
 -- the lane in which it lies
 abbrev pub laneOf : Single → Lane
@@ -23,14 +23,14 @@ laneOf (one s) = openLane s
 -- its stored limit is not bad; of none, nothing is asked
 abbrev pub Good : Single → Type 0
 Good none = Unit
-Good (one s) = badRate s ≡ false
+Good (one s) = badRatePid s ≡ false
 
 -- the lane's step is the controller's, which stays good
 pub record As (next : Stepped) (n : Next) : Type 0 where
   pub same : next ≡ stepped (n .answer) (laneOf (n .single))
   pub good : Good (n .single)
 
-opened-as : (s : RatePid) (slew : SlewLimit) → badRate s ≡ false → As (opened closedLane s slew) (newSingle s slew)
+opened-as : (s : RatePid) (slew : SlewLimit) → badRatePid s ≡ false → As (opened closedLane s slew) (newSingle s slew)
 unfolding opened newSingle
 opened-as s Off g = record { same = refl; good = g }
 opened-as s (At limit) g = go (badLimit limit) refl
@@ -39,10 +39,10 @@ opened-as s (At limit) g = go (badLimit limit) refl
     go true e = record { same = simp e; good = simp e tt }
     go false e = record { same = simp (e, slew-accepted s g limit e); good = simp e (limit-limit s limit ∙ e) }
 
-pub step-as : (c : Single) (op : Op) → Good c → As (laneStep (laneOf c) op) (singleStep c op)
-unfolding laneStep singleStep whenOpen whenGood closedLane callSetTs callSetGains callEnableIntegral callResetIntegral
+pub step-as : (c : Single) (op : Op) → Good c → As (callLane (laneOf c) op) (callSingle c op)
+unfolding callLane callSingle whenOpen whenGood closedLane callSetTsRatePid callSetGainsRatePid callEnableIntegralRatePid callResetIntegralRatePid
 step-as none (Open kp ki kd tau dt slew) g =
-    let made = opened-as (newRate kp ki kd tau dt) slew (new-limit kp ki kd tau dt) in
+    let made = opened-as (newRatePid kp ki kd tau dt) slew (new-limit kp ki kd tau dt) in
     record { same = simp zero-limit (made .same); good = made .good }
 step-as none Close g = record { same = refl; good = tt }
 step-as none (Update r m p) g = record { same = refl; good = tt }

@@ -2,7 +2,7 @@
 // are its calls one by one. A lane that is closed, or open already, is refused before its stored controller is tested,
 // and that before what the call is given. Refused, the lane is as it was.
 ghost use mathlib.Core.Path.{_≡_};
-ghost use Rattle.bank.specs.Lane.{closedLane, running, told, heard, laneStep};
+ghost use Rattle.bank.specs.Lane.{closedLane, running, plainStep, heard, callLane};
 ghost use Rattle.bank.specs.declared.lane.Op.the-variants as Op;
 use rate_pid::Changed;
 use rate_pid::PidTerms;
@@ -96,8 +96,8 @@ impl Lane {
     }
 
     // This lane as it is, and an answer without numbers.
-    fn told(self, refusal: Refusal) -> Stepped
-        ensures { λ r. ⌜ r ≡ told refusal self ⌝ }
+    fn plain_step(self, refusal: Refusal) -> Stepped
+        ensures { λ r. ⌜ r ≡ plainStep refusal self ⌝ }
     {
         let terms = PidTerms::default();
         let answer = Answer {
@@ -109,21 +109,21 @@ impl Lane {
     }
 
     pub fn open(self, kp: f32, ki: f32, kd: f32, tau: f32, dt: f32, slew: SlewLimit) -> Stepped
-        ensures { λ r. ⌜ r ≡ laneStep self (Op.Open kp ki kd tau dt slew) ⌝ }
+        ensures { λ r. ⌜ r ≡ callLane self (Op.Open kp ki kd tau dt slew) ⌝ }
     {
         if self.open {
-            return self.told(Refusal::Open);
+            return self.plain_step(Refusal::Open);
         }
         let old = self.pid;
         if old.bad() {
-            return self.told(Refusal::Slew);
+            return self.plain_step(Refusal::Slew);
         }
         let made = RatePid::new(kp, ki, kd, tau, dt);
         match slew {
             SlewLimit::Off => running(made),
             SlewLimit::At(limit) => {
                 if filters::bad_limit(limit) {
-                    return self.told(Refusal::Slew);
+                    return self.plain_step(Refusal::Slew);
                 }
                 heard(made.slew(limit))
             }
@@ -131,20 +131,20 @@ impl Lane {
     }
 
     pub fn close(self) -> Stepped
-        ensures { λ r. ⌜ r ≡ laneStep self Op.Close ⌝ }
+        ensures { λ r. ⌜ r ≡ callLane self Op.Close ⌝ }
     {
         if self.open {
             let old = self.pid;
             if old.bad() {
-                return self.told(Refusal::Slew);
+                return self.plain_step(Refusal::Slew);
             }
-            return Lane::closed().told(Refusal::None);
+            return Lane::closed().plain_step(Refusal::None);
         }
-        self.told(Refusal::Closed)
+        self.plain_step(Refusal::Closed)
     }
 
     pub fn update(self, reference: f32, measurement: f32, prediction: f32) -> Stepped
-        ensures { λ r. ⌜ r ≡ laneStep self (Op.Update reference measurement prediction) ⌝ }
+        ensures { λ r. ⌜ r ≡ callLane self (Op.Update reference measurement prediction) ⌝ }
     {
         if self.open {
             let old = self.pid;
@@ -161,51 +161,51 @@ impl Lane {
             let lane = Lane { open: true, pid };
             return Stepped { answer, lane };
         }
-        self.told(Refusal::Closed)
+        self.plain_step(Refusal::Closed)
     }
 
     pub fn set_ts(self, ts: f32) -> Stepped
-        ensures { λ r. ⌜ r ≡ laneStep self (Op.SetTs ts) ⌝ }
+        ensures { λ r. ⌜ r ≡ callLane self (Op.SetTs ts) ⌝ }
     {
         if self.open {
             let old = self.pid;
             return heard(old.set_ts(ts));
         }
-        self.told(Refusal::Closed)
+        self.plain_step(Refusal::Closed)
     }
 
     pub fn set_gains(self, kp: f32, ki: f32, kd: f32) -> Stepped
-        ensures { λ r. ⌜ r ≡ laneStep self (Op.SetGains kp ki kd) ⌝ }
+        ensures { λ r. ⌜ r ≡ callLane self (Op.SetGains kp ki kd) ⌝ }
     {
         if self.open {
             let old = self.pid;
             return heard(old.set_gains(kp, ki, kd));
         }
-        self.told(Refusal::Closed)
+        self.plain_step(Refusal::Closed)
     }
 
     pub fn enable_integral(self, enable: bool) -> Stepped
-        ensures { λ r. ⌜ r ≡ laneStep self (Op.EnableIntegral enable) ⌝ }
+        ensures { λ r. ⌜ r ≡ callLane self (Op.EnableIntegral enable) ⌝ }
     {
         if self.open {
             let old = self.pid;
             return heard(old.enable_integral(enable));
         }
-        self.told(Refusal::Closed)
+        self.plain_step(Refusal::Closed)
     }
 
     pub fn reset_integral(self) -> Stepped
-        ensures { λ r. ⌜ r ≡ laneStep self Op.ResetIntegral ⌝ }
+        ensures { λ r. ⌜ r ≡ callLane self Op.ResetIntegral ⌝ }
     {
         if self.open {
             let old = self.pid;
             return heard(old.reset_integral());
         }
-        self.told(Refusal::Closed)
+        self.plain_step(Refusal::Closed)
     }
 
     pub fn terms(self) -> Stepped
-        ensures { λ r. ⌜ r ≡ laneStep self Op.ReadTerms ⌝ }
+        ensures { λ r. ⌜ r ≡ callLane self Op.ReadTerms ⌝ }
     {
         if self.open {
             let old = self.pid;
@@ -219,11 +219,11 @@ impl Lane {
             };
             return Stepped { answer, lane: self };
         }
-        self.told(Refusal::Closed)
+        self.plain_step(Refusal::Closed)
     }
 
     pub fn step(self, op: Op) -> Stepped
-        ensures { λ r. ⌜ r ≡ laneStep self op ⌝ }
+        ensures { λ r. ⌜ r ≡ callLane self op ⌝ }
     {
         match op {
             Op::Open {

@@ -1,8 +1,8 @@
 // One line: its form, the part that knows its call, and the text of the answer.
 ghost use Prim.Native.Nat.{_*_, _≤_};
 ghost use lib.ListN.{length};
-use told::Told;
-use told::text;
+use calls_words::CallAnswer;
+use calls_words::text;
 
 // A word of 8 digits, or none.
 struct Word {
@@ -57,45 +57,45 @@ fn operands(rest: &[u8], count: usize, ops: &mut [u32]) -> bool
         if !w.ok {
             return false;
         }
-        told::put_word(ops, i, w.value);
+        calls_words::put_word(ops, i, w.value);
         i += 1;
     }
     true
 }
 
 // The parts, one after the other, until one knows the call.
-fn tell(name: &[u8], ops: &[u32], states: &mut [u32], res: &mut [u32]) -> Told {
-    match of_numbers::tell(name, ops, res) {
-        Told::Answer(refusal, n) => Told::Answer(refusal, n),
-        Told::Nothing => tell_curve(name, ops, states, res),
+fn answer_call(name: &[u8], ops: &[u32], states: &mut [u32], res: &mut [u32]) -> CallAnswer {
+    match calls_numbers::answer_call(name, ops, res) {
+        CallAnswer::Given(refusal, n) => CallAnswer::Given(refusal, n),
+        CallAnswer::NotOurs => answer_curve(name, ops, states, res),
     }
 }
 
-fn tell_curve(name: &[u8], ops: &[u32], states: &mut [u32], res: &mut [u32]) -> Told {
-    match of_curves::tell(name, ops, res) {
-        Told::Answer(refusal, n) => Told::Answer(refusal, n),
-        Told::Nothing => tell_filter(name, ops, states, res),
+fn answer_curve(name: &[u8], ops: &[u32], states: &mut [u32], res: &mut [u32]) -> CallAnswer {
+    match calls_curves::answer_call(name, ops, res) {
+        CallAnswer::Given(refusal, n) => CallAnswer::Given(refusal, n),
+        CallAnswer::NotOurs => answer_filter(name, ops, states, res),
     }
 }
 
-fn tell_filter(name: &[u8], ops: &[u32], states: &mut [u32], res: &mut [u32]) -> Told {
-    match of_filters::tell(name, ops, states, res) {
-        Told::Answer(refusal, n) => Told::Answer(refusal, n),
-        Told::Nothing => tell_motor(name, ops, states, res),
+fn answer_filter(name: &[u8], ops: &[u32], states: &mut [u32], res: &mut [u32]) -> CallAnswer {
+    match calls_filters::answer_call(name, ops, states, res) {
+        CallAnswer::Given(refusal, n) => CallAnswer::Given(refusal, n),
+        CallAnswer::NotOurs => answer_motor(name, ops, states, res),
     }
 }
 
-fn tell_motor(name: &[u8], ops: &[u32], states: &mut [u32], res: &mut [u32]) -> Told {
-    match of_motors::tell(name, ops, states, res) {
-        Told::Answer(refusal, n) => Told::Answer(refusal, n),
-        Told::Nothing => tell_controller(name, ops, states, res),
+fn answer_motor(name: &[u8], ops: &[u32], states: &mut [u32], res: &mut [u32]) -> CallAnswer {
+    match calls_motors::answer_call(name, ops, states, res) {
+        CallAnswer::Given(refusal, n) => CallAnswer::Given(refusal, n),
+        CallAnswer::NotOurs => answer_controller(name, ops, states, res),
     }
 }
 
-fn tell_controller(name: &[u8], ops: &[u32], states: &mut [u32], res: &mut [u32]) -> Told {
-    match of_controllers::tell(name, ops, states, res) {
-        Told::Answer(refusal, n) => Told::Answer(refusal, n),
-        Told::Nothing => of_bank::tell(name, ops, states, res),
+fn answer_controller(name: &[u8], ops: &[u32], states: &mut [u32], res: &mut [u32]) -> CallAnswer {
+    match calls_controllers::answer_call(name, ops, states, res) {
+        CallAnswer::Given(refusal, n) => CallAnswer::Given(refusal, n),
+        CallAnswer::NotOurs => calls_bank::answer_call(name, ops, states, res),
     }
 }
 
@@ -111,26 +111,26 @@ fn put_answer(refusal: u32, res: &[u32], out: &mut [u8], at: usize) -> usize {
 }
 
 // Reads a line and makes its call.
-fn tell_line(line: &[u8], ops: &mut [u32], states: &mut [u32], res: &mut [u32]) -> Told {
+fn answer_line(line: &[u8], ops: &mut [u32], states: &mut [u32], res: &mut [u32]) -> CallAnswer {
     let end = name_end(line);
     let rest = line.len() - end;
     let count = rest / 9;
     if rest % 9 != 0 {
-        return Told::Nothing;
+        return CallAnswer::NotOurs;
     }
     if ops.len() < count {
-        return Told::Nothing;
+        return CallAnswer::NotOurs;
     }
     if operands(&line[end..], count, ops) {
-        return tell(&line[..end], &ops[..count], states, res);
+        return answer_call(&line[..end], &ops[..count], states, res);
     }
-    Told::Nothing
+    CallAnswer::NotOurs
 }
 
 // Writes the answer to a line from a place of out on, and answers the next place.
 pub(crate) fn answer(line: &[u8], states: &mut [u32], out: &mut [u8], at: usize) -> usize {
-    let mut ops = [0u32; told::WORDS];
-    let mut res = [0u32; told::WORDS];
+    let mut ops = [0u32; calls_words::WORDS];
+    let mut res = [0u32; calls_words::WORDS];
     answer_in(line, &mut ops, states, &mut res, out, at)
 }
 
@@ -143,9 +143,9 @@ fn answer_in(
     out: &mut [u8],
     at: usize,
 ) -> usize {
-    match tell_line(line, ops, states, res) {
-        Told::Nothing => text::malformed(out, at),
-        Told::Answer(refusal, n) => {
+    match answer_line(line, ops, states, res) {
+        CallAnswer::NotOurs => text::malformed(out, at),
+        CallAnswer::Given(refusal, n) => {
             if res.len() < n {
                 return text::malformed(out, at);
             }

@@ -4,8 +4,8 @@ mod line;
 use libc::STDERR_FILENO;
 use libc::STDIN_FILENO;
 use libc::STDOUT_FILENO;
-use told::places;
-use told::text;
+use calls_words::places;
+use calls_words::text;
 
 // What is kept from byte to byte and from read to read: how many bytes of a line have come, whether it is longer than a
 // line may be, how many bytes of answers wait to be written, and whether it goes on: no read and no write failed, and the

@@ -45,17 +45,17 @@ windowMean s = sumF (take (s .length) (s .slots)) /f ofInt binary32 (pos (s .len
 
 -- ---- its calls: refused, a constructor gives the all-zero state, and an update leaves the state
 
-abbrev pub made : Refusal → MovingAverage → MovingAverageMade
-made why s = record { refusal = why; filter = s }
+abbrev pub madeMovingAverage : Refusal → MovingAverage → MovingAverageMade
+madeMovingAverage why s = record { refusal = why; filter = s }
 
-abbrev pub answered : Refusal → Float → MovingAverage → MovingAveraged
-answered why y s = record { refusal = why; y = y; filter = s }
+abbrev pub updatedMovingAverage : Refusal → Float → MovingAverage → MovingAveraged
+updatedMovingAverage why y s = record { refusal = why; y = y; filter = s }
 
-unfoldable pub newWithValueMovingAverage : ℕ → Float → MovingAverageMade
-newWithValueMovingAverage length value = cond (badLength length) (made Refusal.Window (windowOf 0 F.zero)) (made Refusal.None (windowOf length value))
+unfoldable pub callNewWithValueMovingAverage : ℕ → Float → MovingAverageMade
+callNewWithValueMovingAverage length value = cond (badLength length) (madeMovingAverage Refusal.Window (windowOf 0 F.zero)) (madeMovingAverage Refusal.None (windowOf length value))
 
-unfoldable pub newMovingAverage : ℕ → MovingAverageMade
-newMovingAverage length = newWithValueMovingAverage length F.zero
+unfoldable pub callNewMovingAverage : ℕ → MovingAverageMade
+callNewMovingAverage length = callNewWithValueMovingAverage length F.zero
 
-unfoldable pub stepMovingAverage : MovingAverage → Float → MovingAveraged
-stepMovingAverage s value = cond (badWindow s) (answered Refusal.Window F.zero s) (answered Refusal.None (windowMean (windowStore s value)) (windowStore s value))
+unfoldable pub callUpdateMovingAverage : MovingAverage → Float → MovingAveraged
+callUpdateMovingAverage s value = cond (badWindow s) (updatedMovingAverage Refusal.Window F.zero s) (updatedMovingAverage Refusal.None (windowMean (windowStore s value)) (windowStore s value))

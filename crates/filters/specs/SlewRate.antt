@@ -7,7 +7,7 @@ use Rattle.float.specs.Float.{negative, maxF, minF}
 use Rattle.refusal.specs.declared.Refusal.{Refusal}
 use Rattle.refusal.specs.declared.Refusal.the-variants as Refusal
 use Rattle.filters.specs.declared.slew_rate.SlewRate.{SlewRate}
-use Rattle.filters.specs.declared.slew_rate.SlewRateMade.{SlewRateMade}
+use Rattle.filters.specs.declared.slew_rate.SlewRateChanged.{SlewRateChanged}
 use Rattle.filters.specs.declared.slew_rate.SlewRated.{SlewRated}
 
 -- the limit has a negative sign, −0's too, or is NaN
@@ -24,25 +24,25 @@ unfoldable pub slewChange : SlewRate → Float → Float
 slewChange s input = minF (maxF (input -f s .signal) (neg (s .«rate_limit») *f s .dt)) (s .«rate_limit» *f s .dt)
 
 -- the signal that it moves to is also what it gives
-unfoldable pub slewStep : SlewRate → Float → SlewRate
-slewStep s input = slewOf (s .«rate_limit») (s .signal +f slewChange s input) (s .dt)
+unfoldable pub stepSlewRate : SlewRate → Float → SlewRate
+stepSlewRate s input = slewOf (s .«rate_limit») (s .signal +f slewChange s input) (s .dt)
 
-unfoldable pub slewSetDt : SlewRate → Float → SlewRate
-slewSetDt s dt = slewOf (s .«rate_limit») (s .signal) dt
+unfoldable pub setDtSlewRate : SlewRate → Float → SlewRate
+setDtSlewRate s dt = slewOf (s .«rate_limit») (s .signal) dt
 
 -- ---- its calls: refused, a constructor gives the all-zero state, and any other leaves the state
 
-abbrev pub made : Refusal → SlewRate → SlewRateMade
-made why s = record { refusal = why; filter = s }
+abbrev pub changedSlewRate : Refusal → SlewRate → SlewRateChanged
+changedSlewRate why s = record { refusal = why; filter = s }
 
-abbrev pub answered : Refusal → Float → SlewRate → SlewRated
-answered why y s = record { refusal = why; y = y; filter = s }
+abbrev pub updatedSlewRate : Refusal → Float → SlewRate → SlewRated
+updatedSlewRate why y s = record { refusal = why; y = y; filter = s }
 
-unfoldable pub newSlewRate : Float → Float → SlewRateMade
-newSlewRate limit dt = cond (badLimit limit) (made Refusal.Slew (slewOf F.zero F.zero F.zero)) (made Refusal.None (slewOf limit F.zero dt))
+unfoldable pub callNewSlewRate : Float → Float → SlewRateChanged
+callNewSlewRate limit dt = cond (badLimit limit) (changedSlewRate Refusal.Slew (slewOf F.zero F.zero F.zero)) (changedSlewRate Refusal.None (slewOf limit F.zero dt))
 
-unfoldable pub setDtSlewRate : SlewRate → Float → SlewRateMade
-setDtSlewRate s dt = cond (badLimit (s .«rate_limit»)) (made Refusal.Slew s) (made Refusal.None (slewSetDt s dt))
+unfoldable pub callSetDtSlewRate : SlewRate → Float → SlewRateChanged
+callSetDtSlewRate s dt = cond (badLimit (s .«rate_limit»)) (changedSlewRate Refusal.Slew s) (changedSlewRate Refusal.None (setDtSlewRate s dt))
 
-unfoldable pub stepSlewRate : SlewRate → Float → SlewRated
-stepSlewRate s input = cond (badLimit (s .«rate_limit»)) (answered Refusal.Slew F.zero s) (answered Refusal.None (slewStep s input .signal) (slewStep s input))
+unfoldable pub callUpdateSlewRate : SlewRate → Float → SlewRated
+callUpdateSlewRate s input = cond (badLimit (s .«rate_limit»)) (updatedSlewRate Refusal.Slew F.zero s) (updatedSlewRate Refusal.None (stepSlewRate s input .signal) (stepSlewRate s input))

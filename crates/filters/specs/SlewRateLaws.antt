@@ -5,29 +5,29 @@ use lib.Ieee.{Float}
 use Rattle.float.specs.F32 as F
 use Rattle.refusal.specs.declared.Refusal.the-variants as Refusal
 use Rattle.filters.specs.declared.slew_rate.SlewRate.{SlewRate}
-use Rattle.filters.specs.SlewRate.{badLimit, slewOf, slewStep, slewSetDt, made, answered, newSlewRate, setDtSlewRate, stepSlewRate}
+use Rattle.filters.specs.SlewRate.{badLimit, slewOf, stepSlewRate, setDtSlewRate, changedSlewRate, updatedSlewRate, callNewSlewRate, callSetDtSlewRate, callUpdateSlewRate}
 
-pub new-refused : (limit dt : Float) → badLimit limit ≡ true → newSlewRate limit dt ≡ made Refusal.Slew (slewOf F.zero F.zero F.zero)
-unfolding newSlewRate
+pub new-refused : (limit dt : Float) → badLimit limit ≡ true → callNewSlewRate limit dt ≡ changedSlewRate Refusal.Slew (slewOf F.zero F.zero F.zero)
+unfolding callNewSlewRate
 new-refused limit dt b = simp b
 
-pub new-accepted : (limit dt : Float) → badLimit limit ≡ false → newSlewRate limit dt ≡ made Refusal.None (slewOf limit F.zero dt)
-unfolding newSlewRate
+pub new-accepted : (limit dt : Float) → badLimit limit ≡ false → callNewSlewRate limit dt ≡ changedSlewRate Refusal.None (slewOf limit F.zero dt)
+unfolding callNewSlewRate
 new-accepted limit dt g = simp g
 
 module _ (s : SlewRate) (x : Float) where
-  pub set-dt-refused : badLimit (s .«rate_limit») ≡ true → setDtSlewRate s x ≡ made Refusal.Slew s
-  unfolding setDtSlewRate
+  pub set-dt-refused : badLimit (s .«rate_limit») ≡ true → callSetDtSlewRate s x ≡ changedSlewRate Refusal.Slew s
+  unfolding callSetDtSlewRate
   set-dt-refused b = simp b
 
-  pub set-dt-accepted : badLimit (s .«rate_limit») ≡ false → setDtSlewRate s x ≡ made Refusal.None (slewSetDt s x)
-  unfolding setDtSlewRate
+  pub set-dt-accepted : badLimit (s .«rate_limit») ≡ false → callSetDtSlewRate s x ≡ changedSlewRate Refusal.None (setDtSlewRate s x)
+  unfolding callSetDtSlewRate
   set-dt-accepted g = simp g
 
-  pub step-refused : badLimit (s .«rate_limit») ≡ true → stepSlewRate s x ≡ answered Refusal.Slew F.zero s
-  unfolding stepSlewRate
+  pub step-refused : badLimit (s .«rate_limit») ≡ true → callUpdateSlewRate s x ≡ updatedSlewRate Refusal.Slew F.zero s
+  unfolding callUpdateSlewRate
   step-refused b = simp b
 
-  pub step-accepted : badLimit (s .«rate_limit») ≡ false → stepSlewRate s x ≡ answered Refusal.None (slewStep s x .signal) (slewStep s x)
-  unfolding stepSlewRate
+  pub step-accepted : badLimit (s .«rate_limit») ≡ false → callUpdateSlewRate s x ≡ updatedSlewRate Refusal.None (stepSlewRate s x .signal) (stepSlewRate s x)
+  unfolding callUpdateSlewRate
   step-accepted g = simp g

@@ -26,6 +26,6 @@ pub use moving_average::MovingAverage;
 pub use moving_average::MovingAverageMade;
 pub use moving_average::MovingAveraged;
 pub use slew_rate::SlewRate;
-pub use slew_rate::SlewRateMade;
+pub use slew_rate::SlewRateChanged;
 pub use slew_rate::SlewRated;
 pub use slew_rate::bad_limit;

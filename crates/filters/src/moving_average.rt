@@ -2,7 +2,7 @@
 // a state built by hand too, refuses a length that is not 1 to 16, or a head above the length.
 ghost use mathlib.Core.Path.{_≡_};
 ghost use Prim.Native.Nat.{_≤_};
-ghost use Rattle.filters.specs.MovingAverage.{badLength, badWindow, windowOf, windowStore, windowMean, newMovingAverage, newWithValueMovingAverage, stepMovingAverage};
+ghost use Rattle.filters.specs.MovingAverage.{badLength, badWindow, windowOf, windowStore, windowMean, callNewMovingAverage, callNewWithValueMovingAverage, callUpdateMovingAverage};
 use refusal::Refusal;
 
 pub struct MovingAverage {
@@ -102,13 +102,13 @@ impl MovingAverage {
     }
 
     pub fn new(length: usize) -> MovingAverageMade
-        ensures { λ r. ⌜ r ≡ newMovingAverage length ⌝ }
+        ensures { λ r. ⌜ r ≡ callNewMovingAverage length ⌝ }
     {
         MovingAverage::new_with_value(length, 0.0)
     }
 
     pub fn new_with_value(length: usize, value: f32) -> MovingAverageMade
-        ensures { λ r. ⌜ r ≡ newWithValueMovingAverage length value ⌝ }
+        ensures { λ r. ⌜ r ≡ callNewWithValueMovingAverage length value ⌝ }
     {
         if bad_length(length) {
             let refusal = Refusal::Window;
@@ -121,7 +121,7 @@ impl MovingAverage {
     }
 
     pub fn update(self, value: f32) -> MovingAveraged
-        ensures { λ r. ⌜ r ≡ stepMovingAverage self value ⌝ }
+        ensures { λ r. ⌜ r ≡ callUpdateMovingAverage self value ⌝ }
     {
         if self.bad() {
             let refusal = Refusal::Window;

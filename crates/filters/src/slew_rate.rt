@@ -1,7 +1,7 @@
 // A limiter of how fast a signal moves. Every call, on a state built by hand too, refuses a limit that has a negative
 // sign or is NaN.
 ghost use mathlib.Core.Path.{_≡_};
-ghost use Rattle.filters.specs.SlewRate.{badLimit, newSlewRate, setDtSlewRate, stepSlewRate};
+ghost use Rattle.filters.specs.SlewRate.{badLimit, callNewSlewRate, callSetDtSlewRate, callUpdateSlewRate};
 use refusal::Refusal;
 
 pub struct SlewRate {
@@ -11,7 +11,7 @@ pub struct SlewRate {
 }
 
 // What the constructor and the setter give: refused, the constructor's state is all zero, and the setter's is as it was.
-pub struct SlewRateMade {
+pub struct SlewRateChanged {
     pub refusal: Refusal,
     pub filter: SlewRate,
 }
@@ -34,8 +34,8 @@ pub fn bad_limit(limit: f32) -> bool
 }
 
 impl SlewRate {
-    pub fn new(rate_limit: f32, dt: f32) -> SlewRateMade
-        ensures { λ r. ⌜ r ≡ newSlewRate «rate_limit» dt ⌝ }
+    pub fn new(rate_limit: f32, dt: f32) -> SlewRateChanged
+        ensures { λ r. ⌜ r ≡ callNewSlewRate «rate_limit» dt ⌝ }
     {
         if bad_limit(rate_limit) {
             let refusal = Refusal::Slew;
@@ -44,7 +44,7 @@ impl SlewRate {
                 signal: 0.0,
                 dt: 0.0,
             };
-            return SlewRateMade { refusal, filter };
+            return SlewRateChanged { refusal, filter };
         }
         let refusal = Refusal::None;
         let filter = SlewRate {
@@ -52,11 +52,11 @@ impl SlewRate {
             signal: 0.0,
             dt,
         };
-        SlewRateMade { refusal, filter }
+        SlewRateChanged { refusal, filter }
     }
 
     pub fn update(self, input: f32) -> SlewRated
-        ensures { λ r. ⌜ r ≡ stepSlewRate self input ⌝ }
+        ensures { λ r. ⌜ r ≡ callUpdateSlewRate self input ⌝ }
     {
         if bad_limit(self.rate_limit) {
             let refusal = Refusal::Slew;
@@ -79,12 +79,12 @@ impl SlewRate {
         SlewRated { refusal, y, filter }
     }
 
-    pub fn set_dt(self, dt: f32) -> SlewRateMade
-        ensures { λ r. ⌜ r ≡ setDtSlewRate self dt ⌝ }
+    pub fn set_dt(self, dt: f32) -> SlewRateChanged
+        ensures { λ r. ⌜ r ≡ callSetDtSlewRate self dt ⌝ }
     {
         if bad_limit(self.rate_limit) {
             let refusal = Refusal::Slew;
-            return SlewRateMade {
+            return SlewRateChanged {
                 refusal,
                 filter: self,
             };
@@ -95,6 +95,6 @@ impl SlewRate {
             signal: self.signal,
             dt,
         };
-        SlewRateMade { refusal, filter }
+        SlewRateChanged { refusal, filter }
     }
 }

@@ -34,8 +34,8 @@ rise over zero made n min width = elim (lt n min) [ true ↦ refused Refusal.Ste
 rise over (suc left) made n min width = elim (lt n min) [ true ↦ rise over left (suc made) (n +f width) min width | false ↦ fall over (suc left) made n width ]
 
 -- The rule for either upper test: `wrap` has ≥, and the angle controller >.
-abbrev pub wrapBy : (Float → Float → Bool) → Float → Float → Float → Wrapped
-wrapBy test num min max = elim (lt min max) [ true ↦ rise (test max) 64 0 num min (max -f min) | false ↦ refused Refusal.Range 0 ]
+abbrev pub callWrapBy : (Float → Float → Bool) → Float → Float → Float → Wrapped
+callWrapBy test num min max = elim (lt min max) [ true ↦ rise (test max) 64 0 num min (max -f min) | false ↦ refused Refusal.Range 0 ]
 
-unfoldable pub wrapped : Float → Float → Float → Wrapped
-wrapped num min max = wrapBy le num min max
+unfoldable pub callWrap : Float → Float → Float → Wrapped
+callWrap num min max = callWrapBy le num min max

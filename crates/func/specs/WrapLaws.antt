@@ -1,4 +1,4 @@
--- The wrapping rule with no cap, and that `wrapBy` gives its answer and its count of steps where these are at most 64, and else refuses. Assumes nothing.
+-- The wrapping rule with no cap, and that `callWrapBy` gives its answer and its count of steps where these are at most 64, and else refuses. Assumes nothing.
 use mathlib.Core.Path.{_≡_, refl, ap, _∙_}
 use mathlib.Core.Bool.{Bool, true, false}
 use mathlib.Core.Logic.{_⊎_, inl, inr}
@@ -7,7 +7,7 @@ use native.Mathlib.Omega.{arith}
 use lib.Ieee.{Float, lt, le}
 use Rattle.float.specs.F32.{_+f_, _-f_}
 use Rattle.refusal.specs.declared.Refusal.the-variants as Refusal
-use Rattle.func.specs.Func.{refused, settled, fall, rise, wrapBy, wrapped}
+use Rattle.func.specs.Func.{refused, settled, fall, rise, callWrapBy, callWrap}
 
 -- ---- the definitions, turn by turn
 module _ (over : Float → Bool) (width n : Float) where
@@ -39,11 +39,11 @@ module _ (over : Float → Bool) (min width n : Float) where
   rise-end (suc left) made t = rw (t, rise)
 
 module _ (test : Float → Float → Bool) (num min max : Float) where
-  pub wrap-starts : lt min max ≡ true → wrapBy test num min max ≡ rise (test max) 64 0 num min (max -f min)
-  wrap-starts t = rw (t, wrapBy)
+  pub wrap-starts : lt min max ≡ true → callWrapBy test num min max ≡ rise (test max) 64 0 num min (max -f min)
+  wrap-starts t = rw (t, callWrapBy)
 
-  pub wrap-refused : lt min max ≡ false → wrapBy test num min max ≡ refused Refusal.Range 0
-  wrap-refused t = rw (t, wrapBy)
+  pub wrap-by-refused : lt min max ≡ false → callWrapBy test num min max ≡ refused Refusal.Range 0
+  wrap-by-refused t = rw (t, callWrapBy)
 
 -- ---- the rule with no cap: from n on, k subtractions lead to y; k additions and then subtractions do
 pub data Falls (over : Float → Bool) (width : Float) : Float → ℕ → Float → Type 0 where
@@ -107,16 +107,16 @@ module _ (over : Float → Bool) (min width : Float) where
   rise-cases zero made n = rise-last made n (lt n min) refl
   rise-cases (suc left) made n = rise-more left made n (lt n min) refl (rise-cases left (suc made) (n +f width))
 
--- ---- what `wrapBy` gives where min < max, for either upper test
+-- ---- what `callWrapBy` gives where min < max, for either upper test
 module _ (test : Float → Float → Bool) (num min max : Float) (t : lt min max ≡ true) where
   -- the rule's answer and step count, where it makes at most 64 steps
-  pub wrap-by-within : (y : Float) (k : ℕ) → RisesBy (test max) min (max -f min) num k y → k ≤ 64 → wrapBy test num min max ≡ settled y k
+  pub wrap-by-within : (y : Float) (k : ℕ) → RisesBy (test max) min (max -f min) num k y → k ≤ 64 → callWrapBy test num min max ≡ settled y k
   wrap-by-within y k r h =
       let e : 0 + k ≡ k = omega arith in
       wrap-starts test num min max t ∙ rises-within (test max) min (max -f min) r 64 0 h ∙ ap (settled y) e
 
   -- and refusal 6, with 64 steps, where it makes more or never ends
-  pub wrap-by-beyond : ((k : ℕ) (y : Float) → RisesBy (test max) min (max -f min) num k y → 64 < k) → wrapBy test num min max ≡ refused Refusal.Steps 64
+  pub wrap-by-beyond : ((k : ℕ) (y : Float) → RisesBy (test max) min (max -f min) num k y → 64 < k) → callWrapBy test num min max ≡ refused Refusal.Steps 64
   wrap-by-beyond f =
       wrap-starts test num min max t
       ∙ elim (rise-cases (test max) min (max -f min) 64 0 num) [ inl r ↦ absurd (omega (arith, r .2, f (r .0) (r .1) (r .3))) | inr e ↦ e ]
@@ -125,14 +125,14 @@ module _ (test : Float → Float → Bool) (num min max : Float) (t : lt min max
 abbrev pub Rises : Float → Float → Float → Float → ℕ → Float → Type 0
 Rises min max = RisesBy (le max) min
 
-pub wrapped-refused : (num min max : Float) → lt min max ≡ false → wrapped num min max ≡ refused Refusal.Range 0
-unfolding wrapped
-wrapped-refused = wrap-refused le
+pub wrap-refused : (num min max : Float) → lt min max ≡ false → callWrap num min max ≡ refused Refusal.Range 0
+unfolding callWrap
+wrap-refused = wrap-by-refused le
 
-pub wrap-within : (num min max y : Float) (k : ℕ) → lt min max ≡ true → Rises min max (max -f min) num k y → k ≤ 64 → wrapped num min max ≡ settled y k
-unfolding wrapped
+pub wrap-within : (num min max y : Float) (k : ℕ) → lt min max ≡ true → Rises min max (max -f min) num k y → k ≤ 64 → callWrap num min max ≡ settled y k
+unfolding callWrap
 wrap-within num min max y k t = wrap-by-within le num min max t y k
 
-pub wrap-beyond : (num min max : Float) → lt min max ≡ true → ((k : ℕ) (y : Float) → Rises min max (max -f min) num k y → 64 < k) → wrapped num min max ≡ refused Refusal.Steps 64
-unfolding wrapped
+pub wrap-beyond : (num min max : Float) → lt min max ≡ true → ((k : ℕ) (y : Float) → Rises min max (max -f min) num k y → 64 < k) → callWrap num min max ≡ refused Refusal.Steps 64
+unfolding callWrap
 wrap-beyond = wrap-by-beyond le

@@ -1,6 +1,6 @@
 // utils/func.rs: mapping a number from one range to another, and wrapping it into a range by counted steps.
 ghost use mathlib.Core.Path.{_≡_};
-ghost use Rattle.func.specs.Func.{linearMap, refused, above, wrapBy, wrapped};
+ghost use Rattle.func.specs.Func.{linearMap, refused, above, callWrapBy, callWrap};
 use refusal::Refusal;
 
 // What wrapping gives: refused, the number is +0 and the steps are 0, or 64 where they ran out.
@@ -39,7 +39,7 @@ fn above(closed: bool, max: f32, n: f32) -> bool
 // The one wrapping rule, for `wrap` (at max too) and for the angle controller (only past max, `closed`): the width is added while num is
 // below min, then subtracted while it is above. The Rust's loops have no cap: at an infinity, or where a step changes nothing, they never end.
 pub fn wrap_by(num: f32, min: f32, max: f32, closed: bool) -> Wrapped
-    ensures { λ r. ⌜ r ≡ wrapBy (above closed) num min max ⌝ }
+    ensures { λ r. ⌜ r ≡ callWrapBy (above closed) num min max ⌝ }
 {
     if min < max {
         let width = max - min;
@@ -71,7 +71,7 @@ pub fn wrap_by(num: f32, min: f32, max: f32, closed: bool) -> Wrapped
 
 // The Rust's wrap: while num < min add the width, while num ≥ max subtract it.
 pub fn wrap(num: f32, min: f32, max: f32) -> Wrapped
-    ensures { λ r. ⌜ r ≡ wrapped num min max ⌝ }
+    ensures { λ r. ⌜ r ≡ callWrap num min max ⌝ }
 {
     wrap_by(num, min, max, false)
 }

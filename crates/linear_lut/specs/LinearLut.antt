@@ -41,7 +41,7 @@ abbrev pub badPoints : List Float → Bool
 badPoints points = eqb (length points % 2) 1 || eqb (length points) 2
 
 -- no points: 0
-unfoldable pub looked : List Float → Float → Looked
-looked points x =
+unfoldable pub callGet : List Float → Float → Looked
+callGet points x =
     cond (badPoints points) (record { refusal = Refusal.Points; y = F.zero })
     (record { refusal = Refusal.None; y = cond (eqb (length points) 0) F.zero (among points (length points / 2) x) })

@@ -10,7 +10,7 @@ use lib.ListN.{length, getD}
 use lib.Ieee.{Float, nan, le}
 use Rattle.float.specs.F32 as F
 use Rattle.refusal.specs.declared.Refusal.the-variants as Refusal
-use Rattle.linear_lut.specs.LinearLut.{xAt, yAt, segment, holds, within, among, looked}
+use Rattle.linear_lut.specs.LinearLut.{xAt, yAt, segment, holds, within, among, callGet}
 
 module _ (points : List Float) (x : Float) where
   -- the next point's numbers stand two places on
@@ -35,21 +35,21 @@ module _ (points : List Float) (x : Float) where
   unfolding within
   none-left n i e = rw (e, within)
 
-  pub odd-refused : length points % 2 ≡ 1 → record { refusal = Refusal.Points; y = F.zero } ≡ looked points x
-  unfolding looked
+  pub odd-refused : length points % 2 ≡ 1 → record { refusal = Refusal.Points; y = F.zero } ≡ callGet points x
+  unfolding callGet
   odd-refused e = simp (eq-eqb _ _ e)
 
-  pub one-refused : length points ≡ 2 → record { refusal = Refusal.Points; y = F.zero } ≡ looked points x
-  unfolding looked
+  pub one-refused : length points ≡ 2 → record { refusal = Refusal.Points; y = F.zero } ≡ callGet points x
+  unfolding callGet
   one-refused e = simp (eq-eqb _ _ e, or-true)
 
-  pub none-zero : (length points % 2 ≡ 1 → ⊥) → (length points ≡ 2 → ⊥) → length points ≡ 0 → record { refusal = Refusal.None; y = F.zero } ≡ looked points x
-  unfolding looked
+  pub none-zero : (length points % 2 ≡ 1 → ⊥) → (length points ≡ 2 → ⊥) → length points ≡ 0 → record { refusal = Refusal.None; y = F.zero } ≡ callGet points x
+  unfolding callGet
   none-zero f g e = simp (ne-eqb _ _ f, ne-eqb _ _ g, eq-eqb _ _ e)
 
   pub some-among : (length points % 2 ≡ 1 → ⊥) → (length points ≡ 2 → ⊥) → (length points ≡ 0 → ⊥)
-      → record { refusal = Refusal.None; y = among points (length points / 2) x } ≡ looked points x
-  unfolding looked
+      → record { refusal = Refusal.None; y = among points (length points / 2) x } ≡ callGet points x
+  unfolding callGet
   some-among f g e = simp (ne-eqb _ _ f, ne-eqb _ _ g, ne-eqb _ _ e)
 
   pub holds-where : (i : ℕ) → le (xAt points i) x ≡ true → le x (getD points (2 * i + 2) nan) ≡ holds points i x

@@ -2,7 +2,7 @@
 ghost use mathlib.Core.Path.{_≡_};
 ghost use Prim.Native.Nat.{_+_, _-_, _*_, _/_, _≤_, _<_};
 ghost use lib.ListN.{length};
-ghost use Rattle.linear_lut.specs.LinearLut.{segment, holds, within, among, looked};
+ghost use Rattle.linear_lut.specs.LinearLut.{segment, holds, within, among, callGet};
 use refusal::Refusal;
 
 pub struct Looked {
@@ -65,7 +65,7 @@ fn among(points: &[f32], x: f32) -> f32
 
 // `LinearLut::get`, over a lent run of x, y pairs.
 pub fn get(points: &[f32], x: f32) -> Looked
-    ensures { λ r. ⌜ r ≡ looked (now (points .entry)) x ⌝ }
+    ensures { λ r. ⌜ r ≡ callGet (now (points .entry)) x ⌝ }
 {
     let n = points.len();
     if n % 2 == 1 {

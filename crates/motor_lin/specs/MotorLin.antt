@@ -45,8 +45,8 @@ zeroMotor = record {
 }
 
 -- the motor with the thrusts of its two limits
-unfoldable pub motorAt : Float → Float → Command → Command → MotorLin
-motorAt a b min max = record {
+unfoldable pub newMotorLin : Float → Float → Command → Command → MotorLin
+newMotorLin a b min max = record {
   a = a;
   b = b;
   «c_min» = min;
@@ -55,10 +55,10 @@ motorAt a b min max = record {
   «f_max» = thrust (thrustOf a b (min .0) (max .0) (max .0));
 }
 
-unfoldable pub newMotorLin : Float → Float → Command → Command → Made
-newMotorLin a b min max = cond (badMotor (motorAt a b min max))
+unfoldable pub callNewMotorLin : Float → Float → Command → Command → Made
+callNewMotorLin a b min max = cond (badMotor (newMotorLin a b min max))
     (record { refusal = Refusal.Motor; motor = zeroMotor })
-    (record { refusal = Refusal.None; motor = motorAt a b min max })
+    (record { refusal = Refusal.None; motor = newMotorLin a b min max })
 
 -- an answer in thrust, and one in command: +0 where the motor is refused
 unfoldable pub inForce : MotorLin → Thrust → Forced
@@ -67,14 +67,14 @@ inForce m f = cond (badMotor m) (record { refusal = Refusal.Motor; force = thrus
 unfoldable pub inCommand : MotorLin → Command → Commanded
 inCommand m c = cond (badMotor m) (record { refusal = Refusal.Motor; command = command F.zero }) (record { refusal = Refusal.None; command = c })
 
-unfoldable pub commandToForce : MotorLin → Command → Forced
-commandToForce m c = inForce m (thrust (thrustOf (m .a) (m .b) (m .«c_min» .0) (m .«c_max» .0) (c .0)))
+unfoldable pub callCommandToForce : MotorLin → Command → Forced
+callCommandToForce m c = inForce m (thrust (thrustOf (m .a) (m .b) (m .«c_min» .0) (m .«c_max» .0) (c .0)))
 
-unfoldable pub forceToCommand : MotorLin → Thrust → Commanded
-forceToCommand m f = inCommand m (command (commandOf (m .a) (m .b) (m .«f_min» .0) (m .«f_max» .0) (f .0)))
+unfoldable pub callForceToCommand : MotorLin → Thrust → Commanded
+callForceToCommand m f = inCommand m (command (commandOf (m .a) (m .b) (m .«f_min» .0) (m .«f_max» .0) (f .0)))
 
-unfoldable pub minForce : MotorLin → Forced
-minForce m = inForce m (m .«f_min»)
+unfoldable pub callMinForce : MotorLin → Forced
+callMinForce m = inForce m (m .«f_min»)
 
-unfoldable pub maxForce : MotorLin → Forced
-maxForce m = inForce m (m .«f_max»)
+unfoldable pub callMaxForce : MotorLin → Forced
+callMaxForce m = inForce m (m .«f_max»)

@@ -1,6 +1,6 @@
 // motor_lin.rs: the curve between a motor's command and its thrust.
 ghost use mathlib.Core.Path.{_≡_};
-ghost use Rattle.motor_lin.specs.MotorLin.{thrustOf, commandOf, badMotor, zeroMotor, motorAt, newMotorLin, commandToForce, forceToCommand, minForce, maxForce};
+ghost use Rattle.motor_lin.specs.MotorLin.{thrustOf, commandOf, badMotor, zeroMotor, newMotorLin, callNewMotorLin, callCommandToForce, callForceToCommand, callMinForce, callMaxForce};
 use refusal::Refusal;
 
 // The two units. One is not accepted where the other is asked for.
@@ -66,8 +66,8 @@ fn zero() -> MotorLin
 }
 
 // The motor with its thrusts worked out, as the Rust's constructor has it.
-fn motor_at(a: f32, b: f32, min: Command, max: Command) -> MotorLin
-    ensures { λ r. ⌜ r ≡ motorAt a b min max ⌝ }
+fn with_thrusts(a: f32, b: f32, min: Command, max: Command) -> MotorLin
+    ensures { λ r. ⌜ r ≡ newMotorLin a b min max ⌝ }
 {
     let low = thrust_of(a, b, min.0, max.0, min.0);
     let high = thrust_of(a, b, min.0, max.0, max.0);
@@ -99,9 +99,9 @@ impl MotorLin {
     }
 
     pub fn new(a: f32, b: f32, min: Command, max: Command) -> Made
-        ensures { λ r. ⌜ r ≡ newMotorLin a b min max ⌝ }
+        ensures { λ r. ⌜ r ≡ callNewMotorLin a b min max ⌝ }
     {
-        let motor = motor_at(a, b, min, max);
+        let motor = with_thrusts(a, b, min, max);
         if motor.bad() {
             let refusal = Refusal::Motor;
             let none = zero();
@@ -115,7 +115,7 @@ impl MotorLin {
     }
 
     pub fn command_to_force(self, command: Command) -> Forced
-        ensures { λ r. ⌜ r ≡ commandToForce self command ⌝ }
+        ensures { λ r. ⌜ r ≡ callCommandToForce self command ⌝ }
     {
         if self.bad() {
             let refusal = Refusal::Motor;
@@ -130,7 +130,7 @@ impl MotorLin {
     }
 
     pub fn force_to_command(self, force: Thrust) -> Commanded
-        ensures { λ r. ⌜ r ≡ forceToCommand self force ⌝ }
+        ensures { λ r. ⌜ r ≡ callForceToCommand self force ⌝ }
     {
         if self.bad() {
             let refusal = Refusal::Motor;
@@ -145,7 +145,7 @@ impl MotorLin {
     }
 
     pub fn min_force(self) -> Forced
-        ensures { λ r. ⌜ r ≡ minForce self ⌝ }
+        ensures { λ r. ⌜ r ≡ callMinForce self ⌝ }
     {
         if self.bad() {
             let refusal = Refusal::Motor;
@@ -158,7 +158,7 @@ impl MotorLin {
     }
 
     pub fn max_force(self) -> Forced
-        ensures { λ r. ⌜ r ≡ maxForce self ⌝ }
+        ensures { λ r. ⌜ r ≡ callMaxForce self ⌝ }
     {
         if self.bad() {
             let refusal = Refusal::Motor;

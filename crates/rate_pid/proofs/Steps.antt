@@ -10,11 +10,11 @@ use Rattle.filters.specs.declared.lowpass.Lowpassed.{Lowpassed}
 use Rattle.filters.specs.declared.lowpass2.NthOrderLowpass.{NthOrderLowpass}
 use Rattle.filters.specs.declared.lowpass2.NthOrderLowpassed.{NthOrderLowpassed}
 use Rattle.filters.specs.declared.slew_rate.SlewRate.{SlewRate}
-use Rattle.filters.specs.declared.slew_rate.SlewRateMade.{SlewRateMade}
+use Rattle.filters.specs.declared.slew_rate.SlewRateChanged.{SlewRateChanged}
 use Rattle.filters.specs.declared.slew_rate.SlewRated.{SlewRated}
 use Rattle.filters.specs.Lowpass.{stepLowpass}
 use Rattle.filters.specs.Lowpass2.{setDtLowpass2, stepLowpass2}
-use Rattle.filters.specs.SlewRate.{badLimit, newSlewRate, setDtSlewRate, stepSlewRate}
+use Rattle.filters.specs.SlewRate.{badLimit, callNewSlewRate, callSetDtSlewRate, callUpdateSlewRate}
 use Rattle.filters.specs.SlewRateLaws.{new-accepted, set-dt-accepted, step-accepted}
 use Rattle.rate_pid.specs.declared.PidTerms.{PidTerms}
 use Rattle.rate_pid.specs.declared.RatePid.{RatePid}
@@ -24,7 +24,7 @@ use Rattle.rate_pid.specs.declared.slew.Slew.{Slew}
 use Rattle.rate_pid.specs.declared.slew.Slew.the-variants.{Off, On}
 use Rattle.rate_pid.specs.declared.slew.Slewed.{Slewed}
 use Rattle.rate_pid.specs.Slew.{badSlew, setDtSlew, stepSlew}
-use Rattle.rate_pid.specs.RatePid.{rateOf, slewedOf, filteredOf, dGainOf, refDerivativeOf, measDerivativeOf, calm, calmOf, dampedOf, dampingOf, grownOf, integrated, integratedOf, termsOf, stepRate, totalOf, summed, withSlew, advanced, limitRate, tsRate, badRate, changed, updated, callSlew, callSetTs, callUpdate}
+use Rattle.rate_pid.specs.RatePid.{rateOf, slewedOf, filteredOf, dGainOf, refDerivativeOf, measDerivativeOf, calm, calmOf, dampedOf, dampingOf, grownOf, integrated, integratedOf, termsOf, stepRatePid, totalOf, summed, withSlew, advanced, slewRatePid, setTsRatePid, badRatePid, changedRatePid, updatedRatePid, callSlewRatePid, callSetTsRatePid, callUpdateRatePid}
 use Rattle.rate_pid.specs.RatePidLaws.{slew-accepted, guard-passed, update-accepted}
 
 -- ---- a limiter whose limit is good does not refuse
@@ -34,11 +34,11 @@ module _ (d : Slew) (s : SlewRate) (x : Float) (good : badSlew d ≡ false) (on 
   unfolding badSlew
   limit-good = simp on at good
 
-  pub slew-set : (set : SlewRateMade) → set ≡ setDtSlewRate s x → On (set .filter) ≡ setDtSlew d x
+  pub slew-set : (set : SlewRateChanged) → set ≡ callSetDtSlewRate s x → On (set .filter) ≡ setDtSlew d x
   unfolding setDtSlew
   slew-set set e = simp (on, e, set-dt-accepted s x limit-good)
 
-  pub slew-stepped : (next : SlewRated) → next ≡ stepSlewRate s x → record { y = next .y; slew = On (next .filter) } ≡ stepSlew d x
+  pub slew-stepped : (next : SlewRated) → next ≡ callUpdateSlewRate s x → record { y = next .y; slew = On (next .filter) } ≡ stepSlew d x
   unfolding stepSlew
   slew-stepped next e = simp (on, e, step-accepted s x limit-good)
 
@@ -92,15 +92,15 @@ module _ (s : RatePid) where
       } in
       y ≡ totalOf terms
       → record { y = y; pid = rateOf (s .kp) (s .ki) (s .kd) (next .integral) (filtered .y) slewed terms (s .dt) (s .«integral_en») (next .lowpass) (filtered .filter) (s .«d_slew») }
-      ≡ summed (withSlew (stepRate s r m p) (s .«d_slew»))
-  unfolding stepRate termsOf integratedOf calmOf filteredOf refDerivativeOf measDerivativeOf dGainOf withSlew summed
+      ≡ summed (withSlew (stepRatePid s r m p) (s .«d_slew»))
+  unfolding stepRatePid termsOf integratedOf calmOf filteredOf refDerivativeOf measDerivativeOf dGainOf withSlew summed
   followed r m p slewed y filtered moves next e1 e2 e3 e4 e5 = simp (e5, e4, e3, e2, e1)
 
   -- with the limiter moved too
   pub stepped : (r m p : Float) (limited : Slewed) (next : Advanced) (pid : RatePid)
-      → limited ≡ stepSlew (s .«d_slew») r → next ≡ summed (withSlew (stepRate s r m p) (s .«d_slew»)) → pid ≡ withSlew (next .pid) (limited .slew)
-      → record { y = next .y; pid = pid } ≡ summed (stepRate s r m p)
-  unfolding stepRate withSlew summed
+      → limited ≡ stepSlew (s .«d_slew») r → next ≡ summed (withSlew (stepRatePid s r m p) (s .«d_slew»)) → pid ≡ withSlew (next .pid) (limited .slew)
+      → record { y = next .y; pid = pid } ≡ summed (stepRatePid s r m p)
+  unfolding stepRatePid withSlew summed
   stepped r m p limited next pid e1 e2 e3 = simp (e3, e2, e1)
 
   -- with the limiter taken off before
@@ -109,24 +109,24 @@ module _ (s : RatePid) where
     unfolding slewedOf stepSlew withSlew
     passes r = simp e
 
-    pub taken-off : (r m p : Float) (next : Advanced) → next ≡ summed (withSlew (stepRate bare r m p) (bare .«d_slew»)) → next ≡ advanced s r m p
-    unfolding stepRate stepSlew withSlew summed advanced
+    pub taken-off : (r m p : Float) (next : Advanced) → next ≡ summed (withSlew (stepRatePid bare r m p) (bare .«d_slew»)) → next ≡ advanced s r m p
+    unfolding stepRatePid stepSlew withSlew summed advanced
     taken-off r m p next f = simp (f, e)
 
   -- ---- the calls, on a state that is not bad
 
-  module _ (good : badRate s ≡ false) where
-    pub accepted : (r m p : Float) (next : Advanced) → next ≡ summed (stepRate s r m p) → updated Refusal.None (next .y) (next .pid) ≡ callUpdate s r m p
+  module _ (good : badRatePid s ≡ false) where
+    pub accepted : (r m p : Float) (next : Advanced) → next ≡ summed (stepRatePid s r m p) → updatedRatePid Refusal.None (next .y) (next .pid) ≡ callUpdateRatePid s r m p
     unfolding summed
     accepted r m p next e = simp (update-accepted s good r m p, e)
 
-    pub limited : (limit : Float) (made : SlewRateMade) (pid : RatePid) → badLimit limit ≡ false → made ≡ newSlewRate limit (s .dt) → pid ≡ withSlew s (On (made .filter))
-        → changed Refusal.None pid ≡ callSlew s limit
-    unfolding limitRate
+    pub limited : (limit : Float) (made : SlewRateChanged) (pid : RatePid) → badLimit limit ≡ false → made ≡ callNewSlewRate limit (s .dt) → pid ≡ withSlew s (On (made .filter))
+        → changedRatePid Refusal.None pid ≡ callSlewRatePid s limit
+    unfolding slewRatePid
     limited limit made pid g e1 e2 = simp (slew-accepted s good limit g, e2, e1, new-accepted limit (s .dt) g)
 
     pub timed : (ts : Float) (filter : NthOrderLowpass) (slew : Slew) (pid : RatePid) → filter ≡ setDtLowpass2 (s .«d_lowpass») ts → slew ≡ setDtSlew (s .«d_slew») ts
         → pid ≡ withSlew (rateOf (s .kp) (s .ki) (s .kd) (s .integral) (s .«prev_meas») (s .«prev_ref») (s .terms) ts (s .«integral_en») (s .lowpass) filter (s .«d_slew»)) slew
-        → changed Refusal.None pid ≡ callSetTs s ts
-    unfolding callSetTs tsRate withSlew
+        → changedRatePid Refusal.None pid ≡ callSetTsRatePid s ts
+    unfolding callSetTsRatePid setTsRatePid withSlew
     timed ts filter slew pid e1 e2 e3 = simp (guard-passed s good, e3, e2, e1)

@@ -37,8 +37,8 @@ abbrev pub rateOf : Float → Float → Float → Float → Float → Float → 
 rateOf kp ki kd integral prevMeas prevRef terms dt on lowpass dLowpass dSlew = record { kp = kp; ki = ki; kd = kd; integral = integral; «prev_meas» = prevMeas; «prev_ref» = prevRef; terms = terms; dt = dt; «integral_en» = on; lowpass = lowpass; «d_lowpass» = dLowpass; «d_slew» = dSlew }
 
 -- all zero, its switches off
-unfoldable pub zeroRate : RatePid
-zeroRate = rateOf F.zero F.zero F.zero F.zero F.zero F.zero zeroTerms F.zero false zeroLowpass (record { first = zeroLowpass; second = zeroLowpass }) Slew.Off
+unfoldable pub zeroRatePid : RatePid
+zeroRatePid = rateOf F.zero F.zero F.zero F.zero F.zero F.zero zeroTerms F.zero false zeroLowpass (record { first = zeroLowpass; second = zeroLowpass }) Slew.Off
 
 -- ---- the parts of an update, whatever the limit: s is the state before it, r the reference, m the measurement, p the prediction
 
@@ -101,8 +101,8 @@ termsOf s r m p = record {
 
 -- ---- an update, whatever the limit: the state after it, of whose terms the output is the sum
 
-unfoldable pub stepRate : RatePid → Float → Float → Float → RatePid
-stepRate s r m p = record {
+unfoldable pub stepRatePid : RatePid → Float → Float → Float → RatePid
+stepRatePid s r m p = record {
   kp = s .kp;
   ki = s .ki;
   kd = s .kd;
@@ -126,8 +126,8 @@ summed next = record { y = totalOf (next .terms); pid = next }
 
 -- ---- what the other calls do, whatever the limit
 
-unfoldable pub newRate : Float → Float → Float → Float → Float → RatePid
-newRate kp ki kd tau dt = record {
+unfoldable pub newRatePid : Float → Float → Float → Float → Float → RatePid
+newRatePid kp ki kd tau dt = record {
   kp = kp;
   ki = ki;
   kd = kd *f kp;
@@ -147,73 +147,73 @@ unfoldable pub withSlew : RatePid → Slew → RatePid
 withSlew s d = rateOf (s .kp) (s .ki) (s .kd) (s .integral) (s .«prev_meas») (s .«prev_ref») (s .terms) (s .dt) (s .«integral_en») (s .lowpass) (s .«d_lowpass») d
 
 -- there is no limiter
-unfoldable pub unlimitedRate : RatePid → Bool
-unlimitedRate s = isOff (s .«d_slew»)
+unfoldable pub unlimitedRatePid : RatePid → Bool
+unlimitedRatePid s = isOff (s .«d_slew»)
 
 -- an update of the state with its limiter taken off
 unfoldable pub advanced : RatePid → Float → Float → Float → Advanced
-advanced s r m p = summed (stepRate (withSlew s Slew.Off) r m p)
+advanced s r m p = summed (stepRatePid (withSlew s Slew.Off) r m p)
 
 -- a limiter that starts at +0, with the controller's sample time
-unfoldable pub limitRate : RatePid → Float → RatePid
-limitRate s limit = withSlew s (Slew.On (slewOf limit F.zero (s .dt)))
+unfoldable pub slewRatePid : RatePid → Float → RatePid
+slewRatePid s limit = withSlew s (Slew.On (slewOf limit F.zero (s .dt)))
 
 -- dt, and that of the measurement's filter and of the limiter; the damping filter keeps its own
-unfoldable pub tsRate : RatePid → Float → RatePid
-tsRate s ts = rateOf (s .kp) (s .ki) (s .kd) (s .integral) (s .«prev_meas») (s .«prev_ref») (s .terms) ts (s .«integral_en») (s .lowpass) (setDtLowpass2 (s .«d_lowpass») ts) (setDtSlew (s .«d_slew») ts)
+unfoldable pub setTsRatePid : RatePid → Float → RatePid
+setTsRatePid s ts = rateOf (s .kp) (s .ki) (s .kd) (s .integral) (s .«prev_meas») (s .«prev_ref») (s .terms) ts (s .«integral_en») (s .lowpass) (setDtLowpass2 (s .«d_lowpass») ts) (setDtSlew (s .«d_slew») ts)
 
 -- the three gains; kd is stored as kd·kp
-unfoldable pub gainsRate : RatePid → Float → Float → Float → RatePid
-gainsRate s kp ki kd = rateOf kp ki (kd *f kp) (s .integral) (s .«prev_meas») (s .«prev_ref») (s .terms) (s .dt) (s .«integral_en») (s .lowpass) (s .«d_lowpass») (s .«d_slew»)
+unfoldable pub setGainsRatePid : RatePid → Float → Float → Float → RatePid
+setGainsRatePid s kp ki kd = rateOf kp ki (kd *f kp) (s .integral) (s .«prev_meas») (s .«prev_ref») (s .terms) (s .dt) (s .«integral_en») (s .lowpass) (s .«d_lowpass») (s .«d_slew»)
 
 -- the integral's switch alone
-unfoldable pub enableRate : RatePid → Bool → RatePid
-enableRate s on = rateOf (s .kp) (s .ki) (s .kd) (s .integral) (s .«prev_meas») (s .«prev_ref») (s .terms) (s .dt) on (s .lowpass) (s .«d_lowpass») (s .«d_slew»)
+unfoldable pub enableIntegralRatePid : RatePid → Bool → RatePid
+enableIntegralRatePid s on = rateOf (s .kp) (s .ki) (s .kd) (s .integral) (s .«prev_meas») (s .«prev_ref») (s .terms) (s .dt) on (s .lowpass) (s .«d_lowpass») (s .«d_slew»)
 
 -- the integral alone
-unfoldable pub resetRate : RatePid → RatePid
-resetRate s = rateOf (s .kp) (s .ki) (s .kd) F.zero (s .«prev_meas») (s .«prev_ref») (s .terms) (s .dt) (s .«integral_en») (s .lowpass) (s .«d_lowpass») (s .«d_slew»)
+unfoldable pub resetIntegralRatePid : RatePid → RatePid
+resetIntegralRatePid s = rateOf (s .kp) (s .ki) (s .kd) F.zero (s .«prev_meas») (s .«prev_ref») (s .terms) (s .dt) (s .«integral_en») (s .lowpass) (s .«d_lowpass») (s .«d_slew»)
 
 -- ---- its calls: refused, each leaves the state, and its numbers are +0
 
-unfoldable pub badRate : RatePid → Bool
-badRate s = badSlew (s .«d_slew»)
+unfoldable pub badRatePid : RatePid → Bool
+badRatePid s = badSlew (s .«d_slew»)
 
-abbrev pub changed : Refusal → RatePid → Changed
-changed why s = record { refusal = why; pid = s }
+abbrev pub changedRatePid : Refusal → RatePid → Changed
+changedRatePid why s = record { refusal = why; pid = s }
 
-abbrev pub updated : Refusal → Float → RatePid → Updated
-updated why y s = record { answer = record { refusal = why; y = y }; pid = s }
+abbrev pub updatedRatePid : Refusal → Float → RatePid → Updated
+updatedRatePid why y s = record { answer = record { refusal = why; y = y }; pid = s }
 
-abbrev pub told : Refusal → PidTerms → Terms
-told why t = record { refusal = why; terms = t }
+abbrev pub termsRatePid : Refusal → PidTerms → Terms
+termsRatePid why t = record { refusal = why; terms = t }
 
 -- the stored limit is tested before anything that the call itself refuses
 unfoldable pub guarded : RatePid → Changed → Changed
-guarded s next = cond (badRate s) (changed Refusal.Slew s) next
+guarded s next = cond (badRatePid s) (changedRatePid Refusal.Slew s) next
 
-unfoldable pub callSlew : RatePid → Float → Changed
-callSlew s limit = guarded s (cond (badLimit limit) (changed Refusal.Slew s) (changed Refusal.None (limitRate s limit)))
+unfoldable pub callSlewRatePid : RatePid → Float → Changed
+callSlewRatePid s limit = guarded s (cond (badLimit limit) (changedRatePid Refusal.Slew s) (changedRatePid Refusal.None (slewRatePid s limit)))
 
-unfoldable pub callSetTs : RatePid → Float → Changed
-callSetTs s ts = guarded s (changed Refusal.None (tsRate s ts))
+unfoldable pub callSetTsRatePid : RatePid → Float → Changed
+callSetTsRatePid s ts = guarded s (changedRatePid Refusal.None (setTsRatePid s ts))
 
-unfoldable pub callSetGains : RatePid → Float → Float → Float → Changed
-callSetGains s kp ki kd = guarded s (changed Refusal.None (gainsRate s kp ki kd))
+unfoldable pub callSetGainsRatePid : RatePid → Float → Float → Float → Changed
+callSetGainsRatePid s kp ki kd = guarded s (changedRatePid Refusal.None (setGainsRatePid s kp ki kd))
 
-unfoldable pub callEnableIntegral : RatePid → Bool → Changed
-callEnableIntegral s on = guarded s (changed Refusal.None (enableRate s on))
+unfoldable pub callEnableIntegralRatePid : RatePid → Bool → Changed
+callEnableIntegralRatePid s on = guarded s (changedRatePid Refusal.None (enableIntegralRatePid s on))
 
-unfoldable pub callResetIntegral : RatePid → Changed
-callResetIntegral s = guarded s (changed Refusal.None (resetRate s))
+unfoldable pub callResetIntegralRatePid : RatePid → Changed
+callResetIntegralRatePid s = guarded s (changedRatePid Refusal.None (resetIntegralRatePid s))
 
-unfoldable pub callEnableResetIntegral : RatePid → Bool → Changed
-callEnableResetIntegral s on = guarded s (changed Refusal.None (resetRate (enableRate s on)))
+unfoldable pub callEnableResetIntegralRatePid : RatePid → Bool → Changed
+callEnableResetIntegralRatePid s on = guarded s (changedRatePid Refusal.None (resetIntegralRatePid (enableIntegralRatePid s on)))
 
-unfoldable pub callUpdate : RatePid → Float → Float → Float → Updated
-callUpdate s r m p =
-    let next = stepRate s r m p in
-    cond (badRate s) (updated Refusal.Slew F.zero s) (updated Refusal.None (totalOf (next .terms)) next)
+unfoldable pub callUpdateRatePid : RatePid → Float → Float → Float → Updated
+callUpdateRatePid s r m p =
+    let next = stepRatePid s r m p in
+    cond (badRatePid s) (updatedRatePid Refusal.Slew F.zero s) (updatedRatePid Refusal.None (totalOf (next .terms)) next)
 
-unfoldable pub callGetTerms : RatePid → Terms
-callGetTerms s = cond (badRate s) (told Refusal.Slew zeroTerms) (told Refusal.None (s .terms))
+unfoldable pub callGetTermsRatePid : RatePid → Terms
+callGetTermsRatePid s = cond (badRatePid s) (termsRatePid Refusal.Slew zeroTerms) (termsRatePid Refusal.None (s .terms))

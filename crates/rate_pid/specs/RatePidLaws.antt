@@ -16,74 +16,74 @@ use Rattle.float.specs.F32.{_+f_, _-f_}
 use Rattle.float.specs.Float.{absF}
 use Rattle.float.specs.FloatLaws.{Within, clamp-within, lt-nan}
 use Rattle.refusal.specs.declared.Refusal.the-variants as Refusal
-use Rattle.filters.specs.SlewRate.{badLimit, slewStep, slewSetDt}
+use Rattle.filters.specs.SlewRate.{badLimit, stepSlewRate, setDtSlewRate}
 use Rattle.rate_pid.specs.declared.RatePid.{RatePid}
 use Rattle.rate_pid.specs.declared.Changed.{Changed}
 use Rattle.rate_pid.specs.declared.slew.Slew.{Slew}
 use Rattle.rate_pid.specs.declared.slew.Slew.the-variants.{Off, On}
 use Rattle.rate_pid.specs.Slew.{isOff, badSlew, setDtSlew, stepSlew}
-use Rattle.rate_pid.specs.RatePid.{zeroTerms, zeroRate, slewedOf, filteredOf, measDerivativeOf, calm, calmOf, dampedOf, grownOf, integrated, integratedOf, stepRate, totalOf, summed, newRate, withSlew, unlimitedRate, advanced, limitRate, tsRate, gainsRate, enableRate, resetRate, badRate, changed, updated, told, guarded, callSlew, callSetTs, callSetGains, callEnableIntegral, callResetIntegral, callEnableResetIntegral, callUpdate, callGetTerms}
+use Rattle.rate_pid.specs.RatePid.{zeroTerms, zeroRatePid, slewedOf, filteredOf, measDerivativeOf, calm, calmOf, dampedOf, grownOf, integrated, integratedOf, stepRatePid, totalOf, summed, newRatePid, withSlew, unlimitedRatePid, advanced, slewRatePid, setTsRatePid, setGainsRatePid, enableIntegralRatePid, resetIntegralRatePid, badRatePid, changedRatePid, updatedRatePid, termsRatePid, guarded, callSlewRatePid, callSetTsRatePid, callSetGainsRatePid, callEnableIntegralRatePid, callResetIntegralRatePid, callEnableResetIntegralRatePid, callUpdateRatePid, callGetTermsRatePid}
 
 -- ---- refused, a call leaves the state, and its numbers are +0
 
-module _ (s : RatePid) (bad : badRate s ≡ true) where
-  pub guard-refused : (next : Changed) → guarded s next ≡ changed Refusal.Slew s
+module _ (s : RatePid) (bad : badRatePid s ≡ true) where
+  pub guard-refused : (next : Changed) → guarded s next ≡ changedRatePid Refusal.Slew s
   unfolding guarded
   guard-refused next = simp bad
 
-  pub slew-refused : (limit : Float) → callSlew s limit ≡ changed Refusal.Slew s
-  unfolding callSlew
+  pub slew-refused : (limit : Float) → callSlewRatePid s limit ≡ changedRatePid Refusal.Slew s
+  unfolding callSlewRatePid
   slew-refused limit = guard-refused _
 
-  pub set-ts-refused : (ts : Float) → callSetTs s ts ≡ changed Refusal.Slew s
-  unfolding callSetTs
+  pub set-ts-refused : (ts : Float) → callSetTsRatePid s ts ≡ changedRatePid Refusal.Slew s
+  unfolding callSetTsRatePid
   set-ts-refused ts = guard-refused _
 
-  pub set-gains-refused : (kp ki kd : Float) → callSetGains s kp ki kd ≡ changed Refusal.Slew s
-  unfolding callSetGains
+  pub set-gains-refused : (kp ki kd : Float) → callSetGainsRatePid s kp ki kd ≡ changedRatePid Refusal.Slew s
+  unfolding callSetGainsRatePid
   set-gains-refused kp ki kd = guard-refused _
 
-  pub enable-integral-refused : (on : Bool) → callEnableIntegral s on ≡ changed Refusal.Slew s
-  unfolding callEnableIntegral
+  pub enable-integral-refused : (on : Bool) → callEnableIntegralRatePid s on ≡ changedRatePid Refusal.Slew s
+  unfolding callEnableIntegralRatePid
   enable-integral-refused on = guard-refused _
 
-  pub reset-integral-refused : callResetIntegral s ≡ changed Refusal.Slew s
-  unfolding callResetIntegral
+  pub reset-integral-refused : callResetIntegralRatePid s ≡ changedRatePid Refusal.Slew s
+  unfolding callResetIntegralRatePid
   reset-integral-refused = guard-refused _
 
-  pub enable-reset-integral-refused : (on : Bool) → callEnableResetIntegral s on ≡ changed Refusal.Slew s
-  unfolding callEnableResetIntegral
+  pub enable-reset-integral-refused : (on : Bool) → callEnableResetIntegralRatePid s on ≡ changedRatePid Refusal.Slew s
+  unfolding callEnableResetIntegralRatePid
   enable-reset-integral-refused on = guard-refused _
 
-  pub update-refused : (r m p : Float) → callUpdate s r m p ≡ updated Refusal.Slew F.zero s
-  unfolding callUpdate
+  pub update-refused : (r m p : Float) → callUpdateRatePid s r m p ≡ updatedRatePid Refusal.Slew F.zero s
+  unfolding callUpdateRatePid
   update-refused r m p = simp bad
 
-  pub get-terms-refused : callGetTerms s ≡ told Refusal.Slew zeroTerms
-  unfolding callGetTerms
+  pub get-terms-refused : callGetTermsRatePid s ≡ termsRatePid Refusal.Slew zeroTerms
+  unfolding callGetTermsRatePid
   get-terms-refused = simp bad
 
 -- ---- a state that is not bad: only a bad limit given to `slew` is refused
 
-module _ (s : RatePid) (good : badRate s ≡ false) where
+module _ (s : RatePid) (good : badRatePid s ≡ false) where
   pub guard-passed : (next : Changed) → guarded s next ≡ next
   unfolding guarded
   guard-passed next = simp good
 
-  pub slew-limit-refused : (limit : Float) → badLimit limit ≡ true → callSlew s limit ≡ changed Refusal.Slew s
-  unfolding callSlew
+  pub slew-limit-refused : (limit : Float) → badLimit limit ≡ true → callSlewRatePid s limit ≡ changedRatePid Refusal.Slew s
+  unfolding callSlewRatePid
   slew-limit-refused limit b = simp (guard-passed, b)
 
-  pub slew-accepted : (limit : Float) → badLimit limit ≡ false → callSlew s limit ≡ changed Refusal.None (limitRate s limit)
-  unfolding callSlew
+  pub slew-accepted : (limit : Float) → badLimit limit ≡ false → callSlewRatePid s limit ≡ changedRatePid Refusal.None (slewRatePid s limit)
+  unfolding callSlewRatePid
   slew-accepted limit g = simp (guard-passed, g)
 
-  pub update-accepted : (r m p : Float) → callUpdate s r m p ≡ updated Refusal.None (totalOf (stepRate s r m p .terms)) (stepRate s r m p)
-  unfolding callUpdate
+  pub update-accepted : (r m p : Float) → callUpdateRatePid s r m p ≡ updatedRatePid Refusal.None (totalOf (stepRatePid s r m p .terms)) (stepRatePid s r m p)
+  unfolding callUpdateRatePid
   update-accepted r m p = simp good
 
-  pub get-terms-accepted : callGetTerms s ≡ told Refusal.None (s .terms)
-  unfolding callGetTerms
+  pub get-terms-accepted : callGetTermsRatePid s ≡ termsRatePid Refusal.None (s .terms)
+  unfolding callGetTermsRatePid
   get-terms-accepted = simp good
 
 -- ---- a state without a limiter: its updates are not refused, and `advance` makes them
@@ -94,79 +94,79 @@ off-is Off h = refl
 off-is (On s) h = absurd (true≢false (sym h))
 
 module _ (s : RatePid) (r m p : Float) where
-  pub advanced-updates : unlimitedRate s ≡ true → callUpdate s r m p ≡ updated Refusal.None (advanced s r m p .y) (advanced s r m p .pid)
-  unfolding unlimitedRate badRate badSlew advanced summed withSlew
+  pub advanced-updates : unlimitedRatePid s ≡ true → callUpdateRatePid s r m p ≡ updatedRatePid Refusal.None (advanced s r m p .y) (advanced s r m p .pid)
+  unfolding unlimitedRatePid badRatePid badSlew advanced summed withSlew
   advanced-updates h =
       let off = off-is (s .«d_slew») h in
-      let good : badRate s ≡ false = simp off in
+      let good : badRatePid s ≡ false = simp off in
       let bare : s ≡ withSlew s Off = ap (withSlew s) off in
-      update-accepted s good r m p ∙ ap (λ (x : RatePid). updated Refusal.None (totalOf (stepRate x r m p .terms)) (stepRate x r m p)) bare
+      update-accepted s good r m p ∙ ap (λ (x : RatePid). updatedRatePid Refusal.None (totalOf (stepRatePid x r m p .terms)) (stepRatePid x r m p)) bare
 
   -- and none has come after it
-  pub advanced-unlimited : unlimitedRate (advanced s r m p .pid) ≡ true
-  unfolding unlimitedRate isOff advanced summed stepRate stepSlew withSlew
+  pub advanced-unlimited : unlimitedRatePid (advanced s r m p .pid) ≡ true
+  unfolding unlimitedRatePid isOff advanced summed stepRatePid stepSlew withSlew
   advanced-unlimited = refl
 
 -- what holds of the state before, and of the one that the call makes, holds of the one that it leaves
 guarded-keeps : (P : RatePid → Type 0) (s : RatePid) (next : Changed) → P s → P (next .pid) → P (guarded s next .pid)
 unfolding guarded
-guarded-keeps P s next before after = go (badRate s)
+guarded-keeps P s next before after = go (badRatePid s)
   where
-    go : (t : Bool) → P (cond t (changed Refusal.Slew s) next .pid)
+    go : (t : Bool) → P (cond t (changedRatePid Refusal.Slew s) next .pid)
     go true = before
     go false = after
 
-update-keeps : (P : RatePid → Type 0) (s : RatePid) (r m p : Float) → P s → P (stepRate s r m p) → P (callUpdate s r m p .pid)
-unfolding callUpdate
-update-keeps P s r m p before after = go (badRate s)
+update-keeps : (P : RatePid → Type 0) (s : RatePid) (r m p : Float) → P s → P (stepRatePid s r m p) → P (callUpdateRatePid s r m p .pid)
+unfolding callUpdateRatePid
+update-keeps P s r m p before after = go (badRatePid s)
   where
-    go : (t : Bool) → P (cond t (updated Refusal.Slew F.zero s) (updated Refusal.None (totalOf (stepRate s r m p .terms)) (stepRate s r m p)) .pid)
+    go : (t : Bool) → P (cond t (updatedRatePid Refusal.Slew F.zero s) (updatedRatePid Refusal.None (totalOf (stepRatePid s r m p .terms)) (stepRatePid s r m p)) .pid)
     go true = before
     go false = after
 
--- ---- whether the stored limit is bad: `limitRate` takes that of the limit given, and nothing else changes it
+-- ---- whether the stored limit is bad: `slewRatePid` takes that of the limit given, and nothing else changes it
 
 slew-step-limit : (d : Slew) (x : Float) → badSlew (stepSlew d x .slew) ≡ badSlew d
-unfolding badSlew stepSlew slewStep
+unfolding badSlew stepSlew stepSlewRate
 slew-step-limit Off x = refl
 slew-step-limit (On s) x = refl
 
 slew-dt-limit : (d : Slew) (dt : Float) → badSlew (setDtSlew d dt) ≡ badSlew d
-unfolding badSlew setDtSlew slewSetDt
+unfolding badSlew setDtSlew setDtSlewRate
 slew-dt-limit Off dt = refl
 slew-dt-limit (On s) dt = refl
 
-pub zero-limit : badRate zeroRate ≡ false
-unfolding badRate badSlew zeroRate
+pub zero-limit : badRatePid zeroRatePid ≡ false
+unfolding badRatePid badSlew zeroRatePid
 zero-limit = refl
 
-pub new-limit : (kp ki kd tau dt : Float) → badRate (newRate kp ki kd tau dt) ≡ false
-unfolding badRate badSlew newRate
+pub new-limit : (kp ki kd tau dt : Float) → badRatePid (newRatePid kp ki kd tau dt) ≡ false
+unfolding badRatePid badSlew newRatePid
 new-limit kp ki kd tau dt = refl
 
 module _ (s : RatePid) where
-  pub step-limit : (r m p : Float) → badRate (stepRate s r m p) ≡ badRate s
-  unfolding badRate stepRate
+  pub step-limit : (r m p : Float) → badRatePid (stepRatePid s r m p) ≡ badRatePid s
+  unfolding badRatePid stepRatePid
   step-limit r m p = slew-step-limit (s .«d_slew») r
 
-  pub limit-limit : (limit : Float) → badRate (limitRate s limit) ≡ badLimit limit
-  unfolding badRate badSlew limitRate withSlew
+  pub limit-limit : (limit : Float) → badRatePid (slewRatePid s limit) ≡ badLimit limit
+  unfolding badRatePid badSlew slewRatePid withSlew
   limit-limit limit = refl
 
-  pub ts-limit : (ts : Float) → badRate (tsRate s ts) ≡ badRate s
-  unfolding badRate tsRate
+  pub ts-limit : (ts : Float) → badRatePid (setTsRatePid s ts) ≡ badRatePid s
+  unfolding badRatePid setTsRatePid
   ts-limit ts = slew-dt-limit (s .«d_slew») ts
 
-  pub gains-limit : (kp ki kd : Float) → badRate (gainsRate s kp ki kd) ≡ badRate s
-  unfolding badRate gainsRate
+  pub gains-limit : (kp ki kd : Float) → badRatePid (setGainsRatePid s kp ki kd) ≡ badRatePid s
+  unfolding badRatePid setGainsRatePid
   gains-limit kp ki kd = refl
 
-  pub enable-limit : (on : Bool) → badRate (enableRate s on) ≡ badRate s
-  unfolding badRate enableRate
+  pub enable-limit : (on : Bool) → badRatePid (enableIntegralRatePid s on) ≡ badRatePid s
+  unfolding badRatePid enableIntegralRatePid
   enable-limit on = refl
 
-  pub reset-limit : badRate (resetRate s) ≡ badRate s
-  unfolding badRate resetRate
+  pub reset-limit : badRatePid (resetIntegralRatePid s) ≡ badRatePid s
+  unfolding badRatePid resetIntegralRatePid
   reset-limit = refl
 
 -- ---- strictly between −1 and 1, as NaN is not
@@ -203,8 +203,8 @@ module _ (s : RatePid) (r m : Float) where
   calm-when on f g = simp (on, abs-below-one, f .0, f .1, g .0, g .1)
 
   pub moves : (p : Float) → calmOf s r m ≡ true
-      → (stepRate s r m p .integral ≡ grownOf s (measDerivativeOf s m) (p -f m)) × (stepRate s r m p .lowpass ≡ dampedOf s (measDerivativeOf s m) .filter)
-  unfolding stepRate integratedOf integrated
+      → (stepRatePid s r m p .integral ≡ grownOf s (measDerivativeOf s m) (p -f m)) × (stepRatePid s r m p .lowpass ≡ dampedOf s (measDerivativeOf s m) .filter)
+  unfolding stepRatePid integratedOf integrated
   moves p h = (simp h, simp h)
 
 -- ---- else it stands still, and so does the damping filter
@@ -230,11 +230,11 @@ not-calm s r m (inl off) = simp off
 not-calm s r m (inr (inl o)) = simp (outside (filteredOf s m) o, and-false)
 not-calm s r m (inr (inr o)) = simp (outside (slewedOf s r) o, and-false)
 
-pub step-frozen : (s : RatePid) (r m p : Float) → Frozen s r m → Stood s (stepRate s r m p)
-unfolding stepRate integratedOf integrated
+pub step-frozen : (s : RatePid) (r m p : Float) → Frozen s r m → Stood s (stepRatePid s r m p)
+unfolding stepRatePid integratedOf integrated
 step-frozen s r m p h = let off = not-calm s r m h in (simp off, simp off)
 
-pub update-frozen : (s : RatePid) (r m p : Float) → Frozen s r m → Stood s (callUpdate s r m p .pid)
+pub update-frozen : (s : RatePid) (r m p : Float) → Frozen s r m → Stood s (callUpdateRatePid s r m p .pid)
 update-frozen s r m p h = update-keeps (Stood s) s r m p (refl, refl) (step-frozen s r m p h)
 
 -- ---- the integral is NaN or from −1 to 1 after `new`, and every call keeps it so
@@ -246,67 +246,67 @@ zero-within : Within F.minusOne F.one F.zero
 unfolding le lt eq neg ofBits
 zero-within = inr (refl, refl)
 
-pub zero-bounded : Bounded zeroRate
-unfolding zeroRate
+pub zero-bounded : Bounded zeroRatePid
+unfolding zeroRatePid
 zero-bounded = zero-within
 
-pub new-bounded : (kp ki kd tau dt : Float) → Bounded (newRate kp ki kd tau dt)
-unfolding newRate
+pub new-bounded : (kp ki kd tau dt : Float) → Bounded (newRatePid kp ki kd tau dt)
+unfolding newRatePid
 new-bounded kp ki kd tau dt = zero-within
 
 grown-within : (s : RatePid) (rate error : Float) → Within F.minusOne F.one (grownOf s rate error)
 unfolding grownOf le lt eq neg ofBits
 grown-within s rate error = clamp-within _ F.minusOne F.one refl
 
-pub step-bounded : (s : RatePid) (r m p : Float) → Bounded s → Bounded (stepRate s r m p)
-unfolding stepRate integratedOf integrated
+pub step-bounded : (s : RatePid) (r m p : Float) → Bounded s → Bounded (stepRatePid s r m p)
+unfolding stepRatePid integratedOf integrated
 step-bounded s r m p b = go (calmOf s r m)
   where
     go : (t : Bool) → Within F.minusOne F.one (integrated s t (measDerivativeOf s m) (p -f m) .integral)
     go true = grown-within s _ _
     go false = b
 
-pub update-bounded : (s : RatePid) (r m p : Float) → Bounded s → Bounded (callUpdate s r m p .pid)
+pub update-bounded : (s : RatePid) (r m p : Float) → Bounded s → Bounded (callUpdateRatePid s r m p .pid)
 update-bounded s r m p b = update-keeps Bounded s r m p b (step-bounded s r m p b)
 
 -- whatever it was before
-pub reset-bounded : (s : RatePid) → Bounded (resetRate s)
-unfolding resetRate
+pub reset-bounded : (s : RatePid) → Bounded (resetIntegralRatePid s)
+unfolding resetIntegralRatePid
 reset-bounded s = zero-within
 
 module _ (s : RatePid) (b : Bounded s) where
-  pub slew-bounded : (limit : Float) → Bounded (callSlew s limit .pid)
-  unfolding callSlew limitRate withSlew
+  pub slew-bounded : (limit : Float) → Bounded (callSlewRatePid s limit .pid)
+  unfolding callSlewRatePid slewRatePid withSlew
   slew-bounded limit = guarded-keeps Bounded s _ b (go (badLimit limit))
     where
-      go : (t : Bool) → Bounded (cond t (changed Refusal.Slew s) (changed Refusal.None (limitRate s limit)) .pid)
+      go : (t : Bool) → Bounded (cond t (changedRatePid Refusal.Slew s) (changedRatePid Refusal.None (slewRatePid s limit)) .pid)
       go true = b
       go false = b
 
-  pub set-ts-bounded : (ts : Float) → Bounded (callSetTs s ts .pid)
-  unfolding callSetTs tsRate
+  pub set-ts-bounded : (ts : Float) → Bounded (callSetTsRatePid s ts .pid)
+  unfolding callSetTsRatePid setTsRatePid
   set-ts-bounded ts = guarded-keeps Bounded s _ b b
 
-  pub set-gains-bounded : (kp ki kd : Float) → Bounded (callSetGains s kp ki kd .pid)
-  unfolding callSetGains gainsRate
+  pub set-gains-bounded : (kp ki kd : Float) → Bounded (callSetGainsRatePid s kp ki kd .pid)
+  unfolding callSetGainsRatePid setGainsRatePid
   set-gains-bounded kp ki kd = guarded-keeps Bounded s _ b b
 
-  pub enable-integral-bounded : (on : Bool) → Bounded (callEnableIntegral s on .pid)
-  unfolding callEnableIntegral enableRate
+  pub enable-integral-bounded : (on : Bool) → Bounded (callEnableIntegralRatePid s on .pid)
+  unfolding callEnableIntegralRatePid enableIntegralRatePid
   enable-integral-bounded on = guarded-keeps Bounded s _ b b
 
-  pub reset-integral-bounded : Bounded (callResetIntegral s .pid)
-  unfolding callResetIntegral
+  pub reset-integral-bounded : Bounded (callResetIntegralRatePid s .pid)
+  unfolding callResetIntegralRatePid
   reset-integral-bounded = guarded-keeps Bounded s _ b (reset-bounded s)
 
-  pub enable-reset-integral-bounded : (on : Bool) → Bounded (callEnableResetIntegral s on .pid)
-  unfolding callEnableResetIntegral
+  pub enable-reset-integral-bounded : (on : Bool) → Bounded (callEnableResetIntegralRatePid s on .pid)
+  unfolding callEnableResetIntegralRatePid
   enable-reset-integral-bounded on = guarded-keeps Bounded s _ b (reset-bounded _)
 
 -- ---- the terms are the numbers that the output adds up
 
-pub terms-add-up : (s : RatePid) (r m p : Float) → badRate s ≡ false
-    → let after = callUpdate s r m p in
+pub terms-add-up : (s : RatePid) (r m p : Float) → badRatePid s ≡ false
+    → let after = callUpdateRatePid s r m p in
     let t = after .pid .terms in
     after .answer .y ≡ t .«p_out» +f t .«i_out» +f t .«dr_out» +f t .«dm_out»
 unfolding totalOf

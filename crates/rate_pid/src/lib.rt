@@ -6,7 +6,7 @@ ghost use mathlib.Core.Bool.{false, cond, _&&_};
 ghost use lib.Ieee.{lt};
 ghost use Rattle.float.specs.F32 as F;
 ghost use Rattle.float.specs.Float.{absF, clampF};
-ghost use Rattle.rate_pid.specs.RatePid.{zeroTerms, zeroRate, totalOf, calm, integrated, badRate, slewedOf, withSlew, newRate, stepRate, callSlew, callSetTs, callSetGains, callEnableIntegral, callResetIntegral, callEnableResetIntegral, callUpdate, callGetTerms, unlimitedRate, summed, advanced};
+ghost use Rattle.rate_pid.specs.RatePid.{zeroTerms, zeroRatePid, totalOf, calm, integrated, badRatePid, slewedOf, withSlew, newRatePid, stepRatePid, callSlewRatePid, callSetTsRatePid, callSetGainsRatePid, callEnableIntegralRatePid, callResetIntegralRatePid, callEnableResetIntegralRatePid, callUpdateRatePid, callGetTermsRatePid, unlimitedRatePid, summed, advanced};
 
 mod slew;
 
@@ -145,7 +145,7 @@ impl PidTerms {
 impl RatePid {
     // The one check of a state: its stored slew limit is bad.
     pub fn bad(self) -> bool
-        ensures { λ r. ⌜ r ≡ badRate self ⌝ }
+        ensures { λ r. ⌜ r ≡ badRatePid self ⌝ }
     {
         let d_slew = self.d_slew;
         d_slew.bad()
@@ -192,7 +192,7 @@ impl RatePid {
     // the derivative and the calm test by the slewed one.
     fn follow(mut self, slewed: f32, reference: f32, measurement: f32, prediction: f32) -> Advanced
         requires { ⌜ slewed ≡ slewedOf self reference ⌝ }
-        ensures { λ r. ⌜ r ≡ summed (withSlew (stepRate self reference measurement prediction) (self .«d_slew»)) ⌝ }
+        ensures { λ r. ⌜ r ≡ summed (withSlew (stepRatePid self reference measurement prediction) (self .«d_slew»)) ⌝ }
     {
         let filter = self.d_lowpass;
         let passed = filter.update(measurement);
@@ -223,8 +223,8 @@ impl RatePid {
 
     // An update of a state that is not bad.
     fn step(self, reference: f32, measurement: f32, prediction: f32) -> Advanced
-        requires { ⌜ badRate self ≡ false ⌝ }
-        ensures { λ r. ⌜ r ≡ summed (stepRate self reference measurement prediction) ⌝ }
+        requires { ⌜ badRatePid self ≡ false ⌝ }
+        ensures { λ r. ⌜ r ≡ summed (stepRatePid self reference measurement prediction) ⌝ }
     {
         let slew = self.d_slew;
         let limited = slew.update(reference);
@@ -237,7 +237,7 @@ impl RatePid {
 
     // There is no limiter.
     pub fn unlimited(self) -> bool
-        ensures { λ r. ⌜ r ≡ unlimitedRate self ⌝ }
+        ensures { λ r. ⌜ r ≡ unlimitedRatePid self ⌝ }
     {
         let d_slew = self.d_slew;
         d_slew.off()
@@ -255,7 +255,7 @@ impl RatePid {
 
     // The all-zero state with its switches off. Nothing made by `new` is like it: there the integral is on.
     pub fn zero() -> Self
-        ensures { λ r. ⌜ r ≡ zeroRate ⌝ }
+        ensures { λ r. ⌜ r ≡ zeroRatePid ⌝ }
     {
         let terms = PidTerms::default();
         let lowpass = Lowpass {
@@ -288,7 +288,7 @@ impl RatePid {
 
     // Nothing given here is refused. The integral is on.
     pub fn new(kp: f32, ki: f32, kd: f32, tau: f32, dt: f32) -> Self
-        ensures { λ r. ⌜ r ≡ newRate kp ki kd tau dt ⌝ }
+        ensures { λ r. ⌜ r ≡ newRatePid kp ki kd tau dt ⌝ }
     {
         let terms = PidTerms::default();
         let lowpass = Lowpass::new(tau * 10.0, dt);
@@ -312,7 +312,7 @@ impl RatePid {
 
     // The state's own limit is tested before the one given.
     pub fn slew(self, limit: f32) -> Changed
-        ensures { λ r. ⌜ r ≡ callSlew self limit ⌝ }
+        ensures { λ r. ⌜ r ≡ callSlewRatePid self limit ⌝ }
     {
         if self.bad() {
             let refusal = Refusal::Slew;
@@ -332,7 +332,7 @@ impl RatePid {
 
     // The damping filter keeps its sample time.
     pub fn set_ts(mut self, ts: f32) -> Changed
-        ensures { λ r. ⌜ r ≡ callSetTs self ts ⌝ }
+        ensures { λ r. ⌜ r ≡ callSetTsRatePid self ts ⌝ }
     {
         if self.bad() {
             let refusal = Refusal::Slew;
@@ -350,7 +350,7 @@ impl RatePid {
     }
 
     pub fn set_gains(mut self, kp: f32, ki: f32, kd: f32) -> Changed
-        ensures { λ r. ⌜ r ≡ callSetGains self kp ki kd ⌝ }
+        ensures { λ r. ⌜ r ≡ callSetGainsRatePid self kp ki kd ⌝ }
     {
         if self.bad() {
             let refusal = Refusal::Slew;
@@ -364,7 +364,7 @@ impl RatePid {
     }
 
     pub fn enable_integral(mut self, enable: bool) -> Changed
-        ensures { λ r. ⌜ r ≡ callEnableIntegral self enable ⌝ }
+        ensures { λ r. ⌜ r ≡ callEnableIntegralRatePid self enable ⌝ }
     {
         if self.bad() {
             let refusal = Refusal::Slew;
@@ -376,7 +376,7 @@ impl RatePid {
     }
 
     pub fn reset_integral(mut self) -> Changed
-        ensures { λ r. ⌜ r ≡ callResetIntegral self ⌝ }
+        ensures { λ r. ⌜ r ≡ callResetIntegralRatePid self ⌝ }
     {
         if self.bad() {
             let refusal = Refusal::Slew;
@@ -388,7 +388,7 @@ impl RatePid {
     }
 
     pub fn enable_reset_integral(mut self, enable: bool) -> Changed
-        ensures { λ r. ⌜ r ≡ callEnableResetIntegral self enable ⌝ }
+        ensures { λ r. ⌜ r ≡ callEnableResetIntegralRatePid self enable ⌝ }
     {
         if self.bad() {
             let refusal = Refusal::Slew;
@@ -401,7 +401,7 @@ impl RatePid {
     }
 
     pub fn update(self, reference: f32, measurement: f32, prediction: f32) -> Updated
-        ensures { λ r. ⌜ r ≡ callUpdate self reference measurement prediction ⌝ }
+        ensures { λ r. ⌜ r ≡ callUpdateRatePid self reference measurement prediction ⌝ }
     {
         if self.bad() {
             let refusal = Refusal::Slew;
@@ -416,7 +416,7 @@ impl RatePid {
     }
 
     pub fn get_terms(self) -> Terms
-        ensures { λ r. ⌜ r ≡ callGetTerms self ⌝ }
+        ensures { λ r. ⌜ r ≡ callGetTermsRatePid self ⌝ }
     {
         if self.bad() {
             let refusal = Refusal::Slew;
@@ -436,7 +436,7 @@ pub fn update_in_place(
     measurement: f32,
     prediction: f32,
 ) -> Answer
-    ensures { λ r. ⌜ (r ≡ callUpdate (now (pid .entry)) reference measurement prediction .answer) × (now (pid .exit) ≡ callUpdate (now (pid .entry)) reference measurement prediction .pid) ⌝ }
+    ensures { λ r. ⌜ (r ≡ callUpdateRatePid (now (pid .entry)) reference measurement prediction .answer) × (now (pid .exit) ≡ callUpdateRatePid (now (pid .entry)) reference measurement prediction .pid) ⌝ }
 {
     let old = *pid;
     let next = old.update(reference, measurement, prediction);

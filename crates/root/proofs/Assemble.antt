@@ -5,9 +5,9 @@ use Prim.Native.Nat.{ℕ, zero, suc, _+_, _-_, _*_, _/_, _%_, _^_, _≤_, _<_}
 use native.Mathlib.Nat.{le-trans, le-of-eq, eq-or-lt-of-le, mul-le-mul, mul-le-mul-right, mul-lt-mul-of-pos-right, mul-comm, mul-assoc, mul-add, add-mul, mul-pos, mul-mul-mul-comm, pow-suc, add-comm}
 use native.Mathlib.Omega.{arith}
 use lib.Pow.{pow-pos, pow-add}
-use Rattle.root.specs.Root.{ofParts, scaled, middle, fourfold, rootBits}
+use Rattle.root.specs.Root.{ofParts, scaled, twiceMiddle, fourfold, rootBits}
 use Rattle.root.specs.RootLaws.{Nearest, root-nearest, nearest-unique}
-use Rattle.root.specs.Patterns.{scaled-mono, parts-at, middle-is, scaled-is, scaled-at, odd-square, next-middle, own-middle, fourfold-is}
+use Rattle.root.specs.Patterns.{scaled-mono, parts-at, twice-middle-is, scaled-is, scaled-at, odd-square, next-twice-middle, own-twice-middle, fourfold-is}
 use Rattle.root.specs.Post.{IsParts, IsRounded}
 
 square-le : (x g p m : ℕ) → x ≤ g * p → g * g ≤ m → x * x ≤ m * (p * p)
@@ -19,29 +19,29 @@ square-gt x g p m P e l = rw (e, mul-mul-mul-comm g p g p) (mul-lt-mul-of-pos-ri
 one-more : (r : ℕ) → (r + 1) * (r + 1) ≡ r * r + r + r + 1
 one-more r = simp (mul-add, add-mul) (omega arith)
 
-least-middle : (k : ℕ) → middle (k * 2 ^ 23 + 2 ^ 23) ≤ 2 ^ 24 * 2 ^ k
-least-middle k =
+least-twice-middle : (k : ℕ) → twiceMiddle (k * 2 ^ 23 + 2 ^ 23) ≤ 2 ^ 24 * 2 ^ k
+least-twice-middle k =
     let y = k * 2 ^ 23 + 2 ^ 23 in
     let a : scaled y ≡ 2 ^ 23 * 2 ^ k = scaled-at k (2 ^ 23) (omega arith) (omega arith) in
     let b : scaled (y - 1) ≤ scaled y = scaled-mono (y - 1) y (omega arith) in
-    rw (middle-is y) (omega arith)
+    rw (twice-middle-is y) (omega arith)
 
-below-inner : (n k q : ℕ) → 2 ^ 23 ≤ q → q + 1 < 2 ^ 24 → (q + 1) * (q + 1) < n + (q + 1) → middle (k * 2 ^ 23 + (q + 1)) * middle (k * 2 ^ 23 + (q + 1)) ≤ 4 * n * (2 ^ k * 2 ^ k)
+below-inner : (n k q : ℕ) → 2 ^ 23 ≤ q → q + 1 < 2 ^ 24 → (q + 1) * (q + 1) < n + (q + 1) → twiceMiddle (k * 2 ^ 23 + (q + 1)) * twiceMiddle (k * 2 ^ 23 + (q + 1)) ≤ 4 * n * (2 ^ k * 2 ^ k)
 below-inner n k q h l u =
     let w : q * q + q + q + 1 < n + (q + 1) = rw one-more at u in
-    square-le (middle (k * 2 ^ 23 + (q + 1))) (q + q + 1) (2 ^ k) (4 * n) (le-of-eq (own-middle k q h l)) (rw odd-square (omega arith))
+    square-le (twiceMiddle (k * 2 ^ 23 + (q + 1))) (q + q + 1) (2 ^ k) (4 * n) (le-of-eq (own-twice-middle k q h l)) (rw odd-square (omega arith))
 
-below-of : (n k r : ℕ) → IsRounded n r → 2 ^ 46 ≤ n → middle (k * 2 ^ 23 + r) * middle (k * 2 ^ 23 + r) ≤ 4 * n * (2 ^ k * 2 ^ k)
+below-of : (n k r : ℕ) → IsRounded n r → 2 ^ 46 ≤ n → twiceMiddle (k * 2 ^ 23 + r) * twiceMiddle (k * 2 ^ 23 + r) ≤ 4 * n * (2 ^ k * 2 ^ k)
 below-of n k r R N =
     elim (eq-or-lt-of-le (R .least)) [
-      | inl e ↦ rw (← e) (square-le (middle (k * 2 ^ 23 + 2 ^ 23)) (2 ^ 24) (2 ^ k) (4 * n) (least-middle k) (omega arith))
+      | inl e ↦ rw (← e) (square-le (twiceMiddle (k * 2 ^ 23 + 2 ^ 23)) (2 ^ 24) (2 ^ k) (4 * n) (least-twice-middle k) (omega arith))
       | inr l ↦ let e : r ≡ r - 1 + 1 = omega arith in rw e (below-inner n k (r - 1) (omega arith) (omega (arith, R .most)) (subst (λ (z : ℕ). z * z < n + z) e (R .under)))
     ]
 
 pub is-nearest : (n k r : ℕ) → IsRounded n r → 2 ^ 46 ≤ n → Nearest (4 * n * (2 ^ k * 2 ^ k)) (k * 2 ^ 23 + r)
 is-nearest n k r R N = record {
   below = below-of n k r R N;
-  above = square-gt (middle (suc (k * 2 ^ 23 + r))) (r + r + 1) (2 ^ k) (4 * n) (pow-pos k) (next-middle k r (R .least) (R .most)) (rw odd-square (omega arith));
+  above = square-gt (twiceMiddle (suc (k * 2 ^ 23 + r))) (r + r + 1) (2 ^ k) (4 * n) (pow-pos k) (next-twice-middle k r (R .least) (R .most)) (rw odd-square (omega arith));
 }
 
 -- ---- the halving

@@ -6,7 +6,7 @@ use native.Mathlib.Nat.{le-refl, le-trans, le-of-eq, le-of-lt, lt-of-lt-of-le, e
 use native.Mathlib.Numerals.{add-one}
 use native.Mathlib.Omega.{arith}
 use lib.Pow.{pow-mono, pow-pos, high, low}
-use Rattle.root.specs.Root.{ofParts, scaled, middle, fourfold}
+use Rattle.root.specs.Root.{ofParts, scaled, twiceMiddle, fourfold}
 
 -- ---- the definitions, as equations
 pub parts-zero : (t : ℕ) → ofParts 0 t ≡ t
@@ -21,9 +21,9 @@ pub scaled-is : (b : ℕ) → scaled b ≡ ofParts (b / 2 ^ 23) (b % 2 ^ 23)
 unfolding scaled
 scaled-is b = refl
 
-pub middle-is : (y : ℕ) → middle y ≡ scaled y + scaled (y - 1)
-unfolding middle
-middle-is y = refl
+pub twice-middle-is : (y : ℕ) → twiceMiddle y ≡ scaled y + scaled (y - 1)
+unfolding twiceMiddle
+twice-middle-is y = refl
 
 pub fourfold-is : (b : ℕ) → fourfold b ≡ 4 * scaled b * 2 ^ 149
 unfolding fourfold
@@ -71,12 +71,12 @@ scaled-mono a b h = elim (eq-or-lt-of-le h) [ inl e ↦ le-of-eq (ap scaled e) |
 pub fourfold-least : (b : ℕ) → 0 < b → 4 * 1 * 2 ^ 149 ≤ fourfold b
 fourfold-least b B = let s : 1 ≤ scaled b = rw one-is at (scaled-mono 1 b B) in rw fourfold-is (mul-le-mul-right (2 ^ 149) (mul-le-mul-left 4 s))
 
-pub middle-mono : (a b : ℕ) → a ≤ b → middle a ≤ middle b
-unfolding middle
-middle-mono a b h = omega (arith, scaled-mono a b h, scaled-mono (a - 1) (b - 1) (omega arith))
+pub twice-middle-mono : (a b : ℕ) → a ≤ b → twiceMiddle a ≤ twiceMiddle b
+unfolding twiceMiddle
+twice-middle-mono a b h = omega (arith, scaled-mono a b h, scaled-mono (a - 1) (b - 1) (omega arith))
 
-pub square-mono : (a b : ℕ) → a ≤ b → middle a * middle a ≤ middle b * middle b
-square-mono a b h = mul-le-mul (middle-mono a b h) (middle-mono a b h)
+pub square-mono : (a b : ℕ) → a ≤ b → twiceMiddle a * twiceMiddle a ≤ twiceMiddle b * twiceMiddle b
+square-mono a b h = mul-le-mul (twice-middle-mono a b h) (twice-middle-mono a b h)
 
 -- ---- the number and the middle at a field and its digits
 at-field : (x t : ℕ) → t < 2 ^ 23 → scaled (x * 2 ^ 23 + t) ≡ ofParts x t
@@ -104,23 +104,23 @@ pub odd-square : (r : ℕ) → (r + r + 1) * (r + r + 1) ≡ 4 * (r * r + r) + 1
 odd-square r = simp (mul-add, add-mul) (omega arith)
 
 -- y + s, with s the neighbour above y
-pub middle-next : (y : ℕ) → middle (suc y) ≡ scaled y + scaled (y + 1)
-middle-next y =
+pub twice-middle-next : (y : ℕ) → twiceMiddle (suc y) ≡ scaled y + scaled (y + 1)
+twice-middle-next y =
     let e : suc y - 1 ≡ y = omega arith in
-    middle-is (suc y) ∙ rw (e, add-one) (add-comm (scaled (suc y)) (scaled y))
+    twice-middle-is (suc y) ∙ rw (e, add-one) (add-comm (scaled (suc y)) (scaled y))
 
-pub next-middle : (k r : ℕ) → 2 ^ 23 ≤ r → r < 2 ^ 24 → middle (suc (k * 2 ^ 23 + r)) ≡ (r + r + 1) * 2 ^ k
-next-middle k r h l =
+pub next-twice-middle : (k r : ℕ) → 2 ^ 23 ≤ r → r < 2 ^ 24 → twiceMiddle (suc (k * 2 ^ 23 + r)) ≡ (r + r + 1) * 2 ^ k
+next-twice-middle k r h l =
     let y = k * 2 ^ 23 + r in
     let up : suc y ≡ k * 2 ^ 23 + (r + 1) = omega arith in
     let down : suc y - 1 ≡ y = omega arith in
     let a : scaled (suc y) ≡ (r + 1) * 2 ^ k = ap scaled up ∙ scaled-at k (r + 1) (omega arith) (omega arith) in
     let b : scaled (suc y - 1) ≡ r * 2 ^ k = ap scaled down ∙ scaled-at k r h (omega arith) in
-    middle-is (suc y) ∙ rw (a, b) (simp add-mul (omega arith))
+    twice-middle-is (suc y) ∙ rw (a, b) (simp add-mul (omega arith))
 
 -- the same at y = k · 2 ^ 23 + (r + 1)
-pub own-middle : (k r : ℕ) → 2 ^ 23 ≤ r → r + 1 < 2 ^ 24 → middle (k * 2 ^ 23 + (r + 1)) ≡ (r + r + 1) * 2 ^ k
-own-middle k r h l = let e : k * 2 ^ 23 + (r + 1) ≡ suc (k * 2 ^ 23 + r) = omega arith in ap middle e ∙ next-middle k r h (omega arith)
+pub own-twice-middle : (k r : ℕ) → 2 ^ 23 ≤ r → r + 1 < 2 ^ 24 → twiceMiddle (k * 2 ^ 23 + (r + 1)) ≡ (r + r + 1) * 2 ^ k
+own-twice-middle k r h l = let e : k * 2 ^ 23 + (r + 1) ≡ suc (k * 2 ^ 23 + r) = omega arith in ap twiceMiddle e ∙ next-twice-middle k r h (omega arith)
 
 pub scaled-small : (b : ℕ) → b < 2 ^ 23 → scaled b ≡ b
 scaled-small b h =

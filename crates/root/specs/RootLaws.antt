@@ -9,16 +9,16 @@ use native.Mathlib.Omega.{arith}
 use native.Mathlib.Decide.{decLe, decLt}
 use lib.Dec.{T, leb→le, nleb→lt, lit<}
 use Rattle.root.specs.Patterns.{scaled-mono, square-mono}
-use Rattle.root.specs.Root.{ofParts, scaled, middle, fourfold, reaches, seek, rootBits}
+use Rattle.root.specs.Root.{ofParts, scaled, twiceMiddle, fourfold, reaches, seek, rootBits}
 
 -- y lies nearest to the root of n / 4: (y + p)² ≤ n < (s + y)²
 pub record Nearest (n y : ℕ) : Type 0 where
-  pub below : middle y * middle y ≤ n
-  pub above : n < middle (suc y) * middle (suc y)
+  pub below : twiceMiddle y * twiceMiddle y ≤ n
+  pub above : n < twiceMiddle (suc y) * twiceMiddle (suc y)
 
 -- the square of y + p
 abbrev sq : ℕ → ℕ
-sq y = middle y * middle y
+sq y = twiceMiddle y * twiceMiddle y
 
 pick : (n a b : ℕ) (t : Bool) → (T t → Nearest n a) → (T (not t) → Nearest n b) → Nearest n (elim t [ true ↦ a | false ↦ b ])
 pick n a b true p q = p tt
@@ -36,13 +36,13 @@ seek-nearest n (suc k) lo h l =
     (λ t. seek-nearest n k lo h (unfold reaches in nleb→lt (sq (lo + 2 ^ k)) n t))
 
 top : (b : ℕ) → scaled b ≤ scaled (2 ^ 31) → fourfold b < sq (2 ^ 31)
-unfolding fourfold middle scaled ofParts
+unfolding fourfold twiceMiddle scaled ofParts
 top b h = lt-of-le-of-lt (mul-le-mul-right (2 ^ 149) (mul-le-mul-left 4 h)) (lit< {m = 4 * scaled (2 ^ 31) * 2 ^ 149} {n = sq (2 ^ 31)} tt)
 
 pub root-nearest : (b : ℕ) → b < 2 ^ 31 → Nearest (fourfold b) (rootBits b)
 unfolding rootBits
 root-nearest b h =
-    seek-nearest (fourfold b) 31 0 (unfold middle scaled ofParts in zero-le) (top b (scaled-mono b (2 ^ 31) (omega arith)))
+    seek-nearest (fourfold b) 31 0 (unfold twiceMiddle scaled ofParts in zero-le) (top b (scaled-mono b (2 ^ 31) (omega arith)))
 
 -- ---- there is one nearest
 clash : (n y z : ℕ) → Nearest n y → Nearest n z → y < z → ⊥
@@ -57,7 +57,7 @@ nearest-unique n y z p q =
 
 -- ---- the root lies far below the infinity's pattern
 far : (b : ℕ) → scaled b ≤ scaled (2 ^ 31) → fourfold b < sq (254 * 2 ^ 23)
-unfolding fourfold middle scaled ofParts
+unfolding fourfold twiceMiddle scaled ofParts
 far b h = lt-of-le-of-lt (mul-le-mul-right (2 ^ 149) (mul-le-mul-left 4 h)) (lit< {m = 4 * scaled (2 ^ 31) * 2 ^ 149} {n = sq (254 * 2 ^ 23)} tt)
 
 pub root-finite : (b : ℕ) → b < 2 ^ 31 → rootBits b < 254 * 2 ^ 23

@@ -10,7 +10,7 @@ use lib.Ieee.{Float, nan, inf, fin, binary32, ofBits, toBits, fits, lt, up, down
 use lib.Ieee.Bits.{ofBits-toBits}
 use Rattle.float.specs.F32 as F
 use Rattle.float.specs.FloatLaws.{above-zero}
-use Rattle.root.specs.Root.{root, rootBits, middle, fourfold}
+use Rattle.root.specs.Root.{root, rootBits, twiceMiddle, fourfold}
 use Rattle.root.specs.RootTheorem.{IsRoot, is-root}
 use Rattle.root.specs.RootTies.{rule-unique}
 use Rattle.root.specs.Values.{finite-bits, low-bits, some-bits}
@@ -46,7 +46,7 @@ pub record Rule (x : Float) : Type 0 where
   pub x-is : ofBits binary32 b ≡ x
   pub root-is : root x ≡ ofBits binary32 y
   pub rule : IsRoot b y
-  pub only : (z : ℕ) → middle z * middle z ≤ fourfold b → fourfold b ≤ middle (suc z) * middle (suc z) → z ≡ y
+  pub only : (z : ℕ) → twiceMiddle z * twiceMiddle z ≤ fourfold b → fourfold b ≤ twiceMiddle (suc z) * twiceMiddle (suc z) → z ≡ y
 
 pub root-rule : (m : ℕ) (e : ℤ) → T (fits binary32 (fin false (suc m) e)) → Rule (fin false (suc m) e)
 unfolding root

@@ -8,9 +8,9 @@ use native.Mathlib.Decide.{decLt}
 use lib.Dec.{lit<}
 use lib.Ieee.{binary32, ofBits}
 use lib.Ieee.Exact.{HasValue}
-use Rattle.root.specs.Root.{ofParts, scaled, middle, fourfold, rootBits}
+use Rattle.root.specs.Root.{ofParts, scaled, twiceMiddle, fourfold, rootBits}
 use Rattle.root.specs.RootLaws.{Nearest, root-nearest, root-finite}
-use Rattle.root.specs.Patterns.{scaled-strict, scaled-mono, middle-is, middle-next, fourfold-is, fourfold-least}
+use Rattle.root.specs.Patterns.{scaled-strict, scaled-mono, twice-middle-is, twice-middle-next, fourfold-is, fourfold-least}
 use Rattle.root.specs.Values.{pattern-value}
 
 -- Document 01's rule for the number x above zero of the pattern b, its answer y and the patterns beside y, those of y's neighbours p and s:
@@ -32,14 +32,14 @@ pub record IsRoot (b y : ℕ) : Type 0 where
 smaller : (a b : ℕ) → scaled a < scaled b → a < b
 smaller a b h = elim (decLt a b) [ yes l ↦ l | no f ↦ absurd (lt-irrefl (scaled a) (lt-of-lt-of-le h (scaled-mono b a (omega arith)))) ]
 
-first-middle : middle 1 ≡ 1
-unfolding middle scaled ofParts
-first-middle = refl
+first-twice-middle : twiceMiddle 1 ≡ 1
+unfolding twiceMiddle scaled ofParts
+first-twice-middle = refl
 
 -- a root of a number above zero is above zero
 some-root : (b y : ℕ) → 0 < b → Nearest (fourfold b) y → 0 < y
 some-root b zero B N =
-    let a : fourfold b < 1 = rw first-middle at (N .above) in
+    let a : fourfold b < 1 = rw first-twice-middle at (N .above) in
     let m = fourfold-least b B in
     absurd (lt-irrefl 1 (lt-of-lt-of-le (lit< {m = 1} {n = 4 * 1 * 2 ^ 149} tt) (le-trans m (le-of-lt a))))
 some-root b (suc y) B N = omega arith
@@ -59,6 +59,6 @@ is-root b B h =
       p-next = λ z h. scaled-mono z (y - 1) (omega (arith, smaller z y h));
       s-above = scaled-strict y (y + 1) (omega arith);
       s-next = λ z h. scaled-mono (y + 1) z (omega (arith, smaller y z h));
-      not-less = rw (← middle-is y, ← fourfold-is b) (N .below);
-      not-more = rw (← middle-next y, ← fourfold-is b) (le-of-lt (N .above));
+      not-less = rw (← twice-middle-is y, ← fourfold-is b) (N .below);
+      not-more = rw (← twice-middle-next y, ← fourfold-is b) (le-of-lt (N .above));
     }

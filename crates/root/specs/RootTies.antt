@@ -7,9 +7,9 @@ use native.Mathlib.Omega.{arith}
 use native.Mathlib.Decide.{decLe}
 use lib.Dec.{lit<}
 use lib.Pow.{pow-pos, pow-add}
-use Rattle.root.specs.Root.{ofParts, scaled, middle, fourfold, rootBits}
+use Rattle.root.specs.Root.{ofParts, scaled, twiceMiddle, fourfold, rootBits}
 use Rattle.root.specs.RootLaws.{root-nearest, nearest-unique}
-use Rattle.root.specs.Patterns.{square-mono, middle-is, own-middle, scaled-at, scaled-is, parts-at, parts-zero, odd-square, fourfold-is, fourfold-least}
+use Rattle.root.specs.Patterns.{square-mono, twice-middle-is, own-twice-middle, scaled-at, scaled-is, parts-at, parts-zero, odd-square, fourfold-is, fourfold-least}
 
 -- ---- an odd square of 49 digits or more is no number of 24 digits, by any power of two
 
@@ -38,20 +38,20 @@ pub record Odd (n : ℕ) : Type 0 where
   pub large : 2 ^ 23 ≤ half
   pub is : n ≡ (half + half + 1) * 2 ^ place
 
-inside : (k r : ℕ) → 2 ^ 23 ≤ r → r + 1 < 2 ^ 24 → Odd (middle (k * 2 ^ 23 + (r + 1)))
-inside k r h l = record { half = r; place = k; large = h; is = own-middle k r h l }
+inside : (k r : ℕ) → 2 ^ 23 ≤ r → r + 1 < 2 ^ 24 → Odd (twiceMiddle (k * 2 ^ 23 + (r + 1)))
+inside k r h l = record { half = r; place = k; large = h; is = own-twice-middle k r h l }
 
 -- at a power of two the neighbour below lies half as far
-at-power : (k : ℕ) → Odd (middle (suc k * 2 ^ 23 + 2 ^ 23))
+at-power : (k : ℕ) → Odd (twiceMiddle (suc k * 2 ^ 23 + 2 ^ 23))
 at-power k =
     let y = suc k * 2 ^ 23 + 2 ^ 23 in
     let down : y - 1 ≡ k * 2 ^ 23 + (2 ^ 24 - 1) = omega arith in
     let a : scaled y ≡ 2 ^ 23 * 2 ^ suc k = scaled-at (suc k) (2 ^ 23) (omega arith) (omega arith) in
     let b : scaled (y - 1) ≡ (2 ^ 24 - 1) * 2 ^ k = ap scaled down ∙ scaled-at k (2 ^ 24 - 1) (omega arith) (omega arith) in
-    record { half = 2 ^ 24 - 1; place = k; large = omega arith; is = rw (middle-is y, a, b, pow-suc 2 k) (omega arith) }
+    record { half = 2 ^ 24 - 1; place = k; large = omega arith; is = rw (twice-middle-is y, a, b, pow-suc 2 k) (omega arith) }
 
-pub odd-middle : (y : ℕ) → 2 ^ 23 < y → Odd (middle y)
-odd-middle y h =
+pub odd-twice-middle : (y : ℕ) → 2 ^ 23 < y → Odd (twiceMiddle y)
+odd-twice-middle y h =
     let x = y / 2 ^ 23 in
     let t = y % 2 ^ 23 in
     elim (eq-or-lt-of-le {n = 0} {m = t} zero-le) [
@@ -73,36 +73,36 @@ short-parts (suc x) t h = record { digits = 2 ^ 23 + t; by = x; few = omega arit
 short : (b : ℕ) → Short (scaled b)
 short b = rw scaled-is (short-parts (b / 2 ^ 23) (b % 2 ^ 23) (omega arith))
 
-least-middle-is : middle (2 ^ 23) ≡ 2 ^ 24 - 1
-unfolding middle scaled ofParts
-least-middle-is = refl
+least-twice-middle-is : twiceMiddle (2 ^ 23) ≡ 2 ^ 24 - 1
+unfolding twiceMiddle scaled ofParts
+least-twice-middle-is = refl
 
-small : (b y : ℕ) → 0 < b → y ≤ 2 ^ 23 → middle y * middle y < fourfold b
+small : (b y : ℕ) → 0 < b → y ≤ 2 ^ 23 → twiceMiddle y * twiceMiddle y < fourfold b
 small b y B h =
     let m = fourfold-least b B in
-    let a : middle y * middle y ≤ (2 ^ 24 - 1) * (2 ^ 24 - 1) = rw least-middle-is at (square-mono y (2 ^ 23) h) in
+    let a : twiceMiddle y * twiceMiddle y ≤ (2 ^ 24 - 1) * (2 ^ 24 - 1) = rw least-twice-middle-is at (square-mono y (2 ^ 23) h) in
     lt-of-le-of-lt a (lt-of-lt-of-le (lit< {m = (2 ^ 24 - 1) * (2 ^ 24 - 1)} {n = 4 * 1 * 2 ^ 149} tt) m)
 
 four-shifted : (q j : ℕ) → 4 * (q * 2 ^ j) * 2 ^ 149 ≡ q * 2 ^ (j + 151)
 four-shifted q j = ap (λ (z : ℕ). z * 2 ^ 149) (mul-comm 4 (q * 2 ^ j)) ∙ mul-assoc (q * 2 ^ j) 4 (2 ^ 149) ∙ mul-assoc q (2 ^ j) (2 ^ 151) ∙ ap (λ (z : ℕ). q * z) (sym (pow-add 2 j 151))
 
-pub never-halfway : (b y : ℕ) → 0 < b → middle y * middle y ≡ fourfold b → ⊥
+pub never-halfway : (b y : ℕ) → 0 < b → twiceMiddle y * twiceMiddle y ≡ fourfold b → ⊥
 never-halfway b y B e =
     elim (decLe y (2 ^ 23)) [
       | yes l ↦ lt-irrefl (fourfold b) (subst (λ (z : ℕ). z < fourfold b) e (small b y B l))
-      | no f ↦ tie (odd-middle y (omega arith)) (short b)
+      | no f ↦ tie (odd-twice-middle y (omega arith)) (short b)
     ]
   where
-    tie : Odd (middle y) → Short (scaled b) → ⊥
+    tie : Odd (twiceMiddle y) → Short (scaled b) → ⊥
     tie o s =
         let a = o .half + o .half + 1 in
         let i = o .place in
-        let left : middle y * middle y ≡ a * a * 2 ^ (i + i) = rw (o .is, pow-add 2 i i) (mul-mul-mul-comm a (2 ^ i) a (2 ^ i)) in
+        let left : twiceMiddle y * twiceMiddle y ≡ a * a * 2 ^ (i + i) = rw (o .is, pow-add 2 i i) (mul-mul-mul-comm a (2 ^ i) a (2 ^ i)) in
         let right : fourfold b ≡ s .digits * 2 ^ (s .by + 151) = rw (fourfold-is, s .is) (four-shifted (s .digits) (s .by)) in
         no-tie (o .half) (i + i) (s .digits) (s .by + 151) (o .large) (s .few) (sym left ∙ e ∙ right)
 
 -- document 01's rule, with ≤ on both sides, admits one answer
-pub rule-unique : (b y : ℕ) → 0 < b → b < 2 ^ 31 → middle y * middle y ≤ fourfold b → fourfold b ≤ middle (suc y) * middle (suc y) → y ≡ rootBits b
+pub rule-unique : (b y : ℕ) → 0 < b → b < 2 ^ 31 → twiceMiddle y * twiceMiddle y ≤ fourfold b → fourfold b ≤ twiceMiddle (suc y) * twiceMiddle (suc y) → y ≡ rootBits b
 rule-unique b y B h l u =
     elim (eq-or-lt-of-le u) [
       | inl e ↦ absurd (never-halfway b (suc y) B (sym e))

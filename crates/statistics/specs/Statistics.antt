@@ -6,7 +6,7 @@ use Rattle.float.specs.F32.{_+f_, _-f_, _*f_}
 use Rattle.root.specs.Root.{root}
 use Rattle.refusal.specs.declared.Refusal.the-variants as Refusal
 use Rattle.statistics.specs.declared.Statistics.{Statistics}
-use Rattle.statistics.specs.declared.Made.{Made}
+use Rattle.statistics.specs.declared.Changed.{Changed}
 use Rattle.statistics.specs.declared.MeanVar.{MeanVar}
 use Rattle.statistics.specs.declared.StdDev.{StdDev}
 
@@ -16,8 +16,8 @@ badAlpha alpha = not (lt F.zero alpha && le alpha F.one)
 unfoldable pub zeroStatistics : Statistics
 zeroStatistics = record { initialized = false; alpha = F.zero; mean = F.zero; variance = F.zero }
 
-unfoldable pub fresh : Float → Statistics
-fresh alpha = record { initialized = false; alpha = alpha; mean = F.zero; variance = F.zero }
+unfoldable pub newStatistics : Float → Statistics
+newStatistics alpha = record { initialized = false; alpha = alpha; mean = F.zero; variance = F.zero }
 
 -- The first sample is the mean. A later one moves the mean by delta·alpha, and the variance becomes (variance + delta·delta·alpha)·(1 − alpha).
 unfoldable pub sampled : Statistics → Float → Statistics
@@ -32,22 +32,22 @@ sampled s x =
     })
     (record { initialized = true; alpha = s .alpha; mean = x; variance = F.zero })
 
-unfoldable pub newStatistics : Float → Made
-newStatistics alpha = cond (badAlpha alpha)
+unfoldable pub callNewStatistics : Float → Changed
+callNewStatistics alpha = cond (badAlpha alpha)
     (record { refusal = Refusal.Alpha; statistics = zeroStatistics })
-    (record { refusal = Refusal.None; statistics = fresh alpha })
+    (record { refusal = Refusal.None; statistics = newStatistics alpha })
 
-unfoldable pub addSample : Statistics → Float → Made
-addSample s x = cond (badAlpha (s .alpha))
+unfoldable pub callAddSample : Statistics → Float → Changed
+callAddSample s x = cond (badAlpha (s .alpha))
     (record { refusal = Refusal.Alpha; statistics = s })
     (record { refusal = Refusal.None; statistics = sampled s x })
 
-unfoldable pub meanVar : Statistics → MeanVar
-meanVar s = cond (badAlpha (s .alpha))
+unfoldable pub callMeanVar : Statistics → MeanVar
+callMeanVar s = cond (badAlpha (s .alpha))
     (record { refusal = Refusal.Alpha; mean = F.zero; variance = F.zero })
     (record { refusal = Refusal.None; mean = s .mean; variance = s .variance })
 
-unfoldable pub stdDev : Statistics → StdDev
-stdDev s = cond (badAlpha (s .alpha))
+unfoldable pub callStdDev : Statistics → StdDev
+callStdDev s = cond (badAlpha (s .alpha))
     (record { refusal = Refusal.Alpha; y = F.zero })
     (record { refusal = Refusal.None; y = root (s .variance) })

@@ -1,6 +1,6 @@
 // statistics.rs: mean and variance of a signal that forgets.
 ghost use mathlib.Core.Path.{_≡_};
-ghost use Rattle.statistics.specs.Statistics.{badAlpha, zeroStatistics, newStatistics, sampled, addSample, meanVar, stdDev};
+ghost use Rattle.statistics.specs.Statistics.{badAlpha, zeroStatistics, callNewStatistics, sampled, callAddSample, callMeanVar, callStdDev};
 use refusal::Refusal;
 
 pub struct Statistics {
@@ -11,7 +11,7 @@ pub struct Statistics {
 }
 
 // What the constructor and a sample give: refused, the constructor's state is all-zero and a sample's is as it was.
-pub struct Made {
+pub struct Changed {
     pub refusal: Refusal,
     pub statistics: Statistics,
 }
@@ -68,13 +68,13 @@ fn sampled(s: Statistics, sample: f32) -> Statistics
 }
 
 impl Statistics {
-    pub fn new(alpha: f32) -> Made
-        ensures { λ r. ⌜ r ≡ newStatistics alpha ⌝ }
+    pub fn new(alpha: f32) -> Changed
+        ensures { λ r. ⌜ r ≡ callNewStatistics alpha ⌝ }
     {
         if bad_alpha(alpha) {
             let refusal = Refusal::Alpha;
             let statistics = zero();
-            return Made {
+            return Changed {
                 refusal,
                 statistics,
             };
@@ -86,32 +86,32 @@ impl Statistics {
             mean: 0.0,
             variance: 0.0,
         };
-        Made {
+        Changed {
             refusal,
             statistics,
         }
     }
 
-    pub fn add_sample(self, sample: f32) -> Made
-        ensures { λ r. ⌜ r ≡ addSample self sample ⌝ }
+    pub fn add_sample(self, sample: f32) -> Changed
+        ensures { λ r. ⌜ r ≡ callAddSample self sample ⌝ }
     {
         if bad_alpha(self.alpha) {
             let refusal = Refusal::Alpha;
-            return Made {
+            return Changed {
                 refusal,
                 statistics: self,
             };
         }
         let refusal = Refusal::None;
         let statistics = sampled(self, sample);
-        Made {
+        Changed {
             refusal,
             statistics,
         }
     }
 
     pub fn mean_var(self) -> MeanVar
-        ensures { λ r. ⌜ r ≡ meanVar self ⌝ }
+        ensures { λ r. ⌜ r ≡ callMeanVar self ⌝ }
     {
         if bad_alpha(self.alpha) {
             let refusal = Refusal::Alpha;
@@ -130,7 +130,7 @@ impl Statistics {
     }
 
     pub fn std_dev(self) -> StdDev
-        ensures { λ r. ⌜ r ≡ stdDev self ⌝ }
+        ensures { λ r. ⌜ r ≡ callStdDev self ⌝ }
     {
         if bad_alpha(self.alpha) {
             let refusal = Refusal::Alpha;

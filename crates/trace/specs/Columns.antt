@@ -14,7 +14,7 @@ use Rattle.lanes.specs.Runs.{answers, left, answers-length}
 use Rattle.lanes.specs.Lanes.{For, for, ofLane}
 use Rattle.refusal.specs.declared.Refusal.the-variants as Refusal
 use Rattle.refusal.specs.Refusal.{passes}
-use Rattle.rate_pid.specs.RatePid.{newRate}
+use Rattle.rate_pid.specs.RatePid.{newRatePid}
 use Rattle.npy.specs.declared.reader.Kind.{Kind}
 use Rattle.npy.specs.declared.reader.Kind.the-variants.{F4}
 use Rattle.npy.specs.Header.{cellWidth, headerOf}
@@ -26,8 +26,8 @@ use Rattle.bank.specs.declared.lane.Op.the-variants.{Update}
 use Rattle.bank.specs.declared.lane.Answer.{Answer}
 use Rattle.bank.specs.declared.Bank.{Bank}
 use Rattle.bank.specs.Lane.{plain}
-use Rattle.bank.specs.Bank.{freshBank, bankStep}
-use Rattle.bank.specs.Single.{Single, none, one, newSingle, singleStep, singleRun, singleAfter}
+use Rattle.bank.specs.Bank.{freshBank, callBank}
+use Rattle.bank.specs.Single.{Single, none, one, newSingle, callSingle, singleRun, singleAfter}
 use Rattle.bank.specs.Runs.{bankMachine, run, after}
 use Rattle.bank.specs.RunLaws.{Lies, lies-run, lies-after, fresh-lies}
 use Rattle.rows.specs.Rows.{nextLane, updateCalls, valuesOf}
@@ -63,7 +63,7 @@ pub run-turn : (ops : List Op) (b : Bank) (lane : ℕ) → run b (inTurn lane op
 unfolding answers inTurn things
 run-turn [] b lane = refl
 run-turn (op ∷ ops) b lane =
-    ap (λ (l : List (For Answer)). for lane (bankStep b lane op .answer) ∷ l) (run-turn ops (bankStep b lane op .bank) (suc lane))
+    ap (λ (l : List (For Answer)). for lane (callBank b lane op .answer) ∷ l) (run-turn ops (callBank b lane op .bank) (suc lane))
 
 pub value-at : (xs : List (For Answer)) (i : ℕ) (d : Answer) → i < length xs → getD (valuesOf xs) i nan ≡ getD (things xs) i d .y
 unfolding valuesOf things
@@ -89,7 +89,7 @@ answered-at b calls ops e L d h =
 -- the values that it answers
 unfoldable pub column : Single → List Op → List Float
 column c [] = []
-column c (op ∷ ops) = singleStep c op .answer .y ∷ column (singleStep c op .single) ops
+column c (op ∷ ops) = callSingle c op .answer .y ∷ column (callSingle c op .single) ops
 
 -- they depend on the calls so far
 pub column-same : (r : ℕ) (c : Single) (ops other : List Op) (d : Op) → r < length ops → r < length other
@@ -100,7 +100,7 @@ column-same r c (op ∷ ops) [] d h g e = absurd (omega arith)
 column-same zero c (op ∷ ops) (o ∷ other) d h g e = let s : op ≡ o = e 0 (omega arith) in rw s
 column-same (suc r) c (op ∷ ops) (o ∷ other) d h g e =
     let s : op ≡ o = e 0 (omega arith) in
-    rw s (column-same r (singleStep c o .single) ops other d (omega arith) (omega arith) (λ (q : ℕ) (l : q ≤ r). e (suc q) (omega arith)))
+    rw s (column-same r (callSingle c o .single) ops other d (omega arith) (omega arith) (λ (q : ℕ) (l : q ≤ r). e (suc q) (omega arith)))
 
 -- ---- a row
 
@@ -118,7 +118,7 @@ row-of-lane c s L h = ap (ofLane L) (row-turn c s) ∙ lane-of-each (updateOf (c
 
 -- what is printed for it is its controller's answer
 pub row-value : (c : Course) (s : List ℕ) (L : ℕ) (σ : Single) → L ≤ 7 → L < c .lanes → Lies L (c .bank) σ
-    → getD (valuesOf (run (c .bank) (rowCalls c s))) L nan ≡ singleStep σ (laneUpdate (c .kind) L s) .answer .y
+    → getD (valuesOf (run (c .bank) (rowCalls c s))) L nan ≡ callSingle σ (laneUpdate (c .kind) L s) .answer .y
 unfolding answers
 row-value c s L σ h l lies =
     let b = c .bank in
@@ -126,13 +126,13 @@ row-value c s L σ h l lies =
     let d : Answer = plain Refusal.None in
     let len : length (run b (rowCalls c s)) ≡ c .lanes = answers-length bankMachine (rowCalls c s) b ∙ row-count c s in
     let told : ofLane L (run b (rowCalls c s)) ≡ getD (things (run b (rowCalls c s))) L d ∷ [] = answered-at b (rowCalls c s) _ (row-turn c s) L d (omega arith) in
-    let heard : ofLane L (run b (rowCalls c s)) ≡ singleStep σ op .answer ∷ [] = lies-run L h (rowCalls c s) b σ lies ∙ ap (singleRun σ) (row-of-lane c s L l) in
-    let same : getD (things (run b (rowCalls c s))) L d ≡ singleStep σ op .answer = cc in
+    let heard : ofLane L (run b (rowCalls c s)) ≡ callSingle σ op .answer ∷ [] = lies-run L h (rowCalls c s) b σ lies ∙ ap (singleRun σ) (row-of-lane c s L l) in
+    let same : getD (things (run b (rowCalls c s))) L d ≡ callSingle σ op .answer = cc in
     value-at (run b (rowCalls c s)) L d (omega arith) ∙ ap (λ (a : Answer). a .y) same
 
 -- and after it its controller is updated
 pub row-lies : (c : Course) (s : List ℕ) (L : ℕ) (σ : Single) → L ≤ 7 → L < c .lanes → Lies L (c .bank) σ
-    → Lies L (after (c .bank) (rowCalls c s)) (singleStep σ (laneUpdate (c .kind) L s) .single)
+    → Lies L (after (c .bank) (rowCalls c s)) (callSingle σ (laneUpdate (c .kind) L s) .single)
 unfolding left
 row-lies c s L σ h l lies =
     subst (λ (ops : List Op). Lies L (after (c .bank) (rowCalls c s)) (singleAfter σ ops)) (row-of-lane c s L l) (lies-after L h (rowCalls c s) (c .bank) σ lies)
@@ -155,7 +155,7 @@ rows-word zero (suc n) c s L σ rest h a l lies =
 rows-word (suc r) (suc n) c s L σ rest h a l lies =
     let e : suc r * (9 * c .lanes) + 9 * L ≡ length (rowLine c s) + (r * (9 * c .lanes) + 9 * L) = omega (arith, suc-mul r (9 * c .lanes), row-length c s) in
     rw (e, append-assoc, drop-append-add)
-    (rows-word r n (rowOn c (c .left - 1) s) (drop (rowWidth c) s) L (singleStep σ (laneUpdate (c .kind) L s) .single) rest (omega arith) a l (row-lies c s L σ a l lies))
+    (rows-word r n (rowOn c (c .left - 1) s) (drop (rowWidth c) s) L (callSingle σ (laneUpdate (c .kind) L s) .single) rest (omega arith) a l (row-lies c s L σ a l lies))
 
 -- ---- cells by their row and column
 
@@ -194,14 +194,14 @@ updates-at kind k L n s r d h =
 
 -- lane L's controller, new from its settings
 unfoldable pub controllerAt : List ℕ → ℕ → Single
-controllerAt s L = one (newRate (cellAt F4 5 s L 0) (cellAt F4 5 s L 1) (cellAt F4 5 s L 2) (cellAt F4 5 s L 3) (cellAt F4 5 s L 4))
+controllerAt s L = one (newRatePid (cellAt F4 5 s L 0) (cellAt F4 5 s L 1) (cellAt F4 5 s L 2) (cellAt F4 5 s L 3) (cellAt F4 5 s L 4))
 
 setting-at : (s : List ℕ) (L j : ℕ) → cellOf F4 (drop (j * 4) (drop (L * 20) s)) ≡ cellAt F4 5 s L j
 unfolding cellAt
 setting-at s L j = let e : (L * 5 + j) * 4 ≡ L * 20 + j * 4 = omega arith in rw (drop-drop (j * 4) (L * 20) s, e)
 
 opened-single : (s : List ℕ) (L : ℕ) → singleAfter none (openOf (drop (L * 20) s) ∷ []) ≡ controllerAt s L
-unfolding left singleStep newSingle openOf controllerAt
+unfolding left callSingle newSingle openOf controllerAt
 opened-single s L =
     rw (← setting-at s L 0, ← setting-at s L 1, ← setting-at s L 2, ← setting-at s L 3, ← setting-at s L 4)
 

@@ -22,7 +22,7 @@ use Rattle.bank.specs.declared.lane.Op.{Op}
 use Rattle.bank.specs.declared.lane.Op.the-variants.{Open}
 use Rattle.bank.specs.declared.lane.SlewLimit.the-variants.{Off}
 use Rattle.bank.specs.declared.Bank.{Bank}
-use Rattle.bank.specs.Bank.{freshBank, bankStep}
+use Rattle.bank.specs.Bank.{freshBank, callBank}
 use Rattle.bank.specs.Runs.{after}
 use Rattle.lanes.specs.Runs.{left}
 use Rattle.trace.specs.declared.course.Begun.{Begun}
@@ -96,7 +96,7 @@ opens kp ki kd tau dt s i e1 e2 e3 e4 e5 = rw (e1, e2, e3, e4, e5, drop-drop 4 i
 
 module _ (s : List ℕ) where
   pub open-more : (k lane i : ℕ) (b : Bank) (op : Op) → lane < k → op ≡ openOf (drop i s)
-      → after (bankStep b lane op .bank) (inTurn (lane + 1) (each openOf 20 (k - (lane + 1)) (drop (i + 20) s))) ≡ after b (inTurn lane (each openOf 20 (k - lane) (drop i s)))
+      → after (callBank b lane op .bank) (inTurn (lane + 1) (each openOf 20 (k - (lane + 1)) (drop (i + 20) s))) ≡ after b (inTurn lane (each openOf 20 (k - lane) (drop i s)))
   unfolding inTurn each left
   open-more k lane i b op h e =
       let a : k - lane ≡ suc (k - (lane + 1)) = omega arith in

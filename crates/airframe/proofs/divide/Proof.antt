@@ -42,8 +42,8 @@ loop-holds c = (omega arith, refl, omega arith, refl)
 sub-loop : tie.Need-sub-loop Inv-loop μ-loop
 sub-loop c = omega arith
 
-motor-of-requires : tie.Need-motor-of-requires Inv-loop μ-loop
-motor-of-requires c κs = omega arith
+read-motor-requires : tie.Need-read-motor-requires Inv-loop μ-loop
+read-motor-requires c κs = omega arith
 
 column-requires : tie.Need-column-requires Inv-loop μ-loop
 column-requires c κs = search needs
@@ -102,7 +102,7 @@ loop-again c =
       omega arith,
       simp length-set (l .loop .inv .1),
       simp length-set (omega (arith, l .loop .inv .2, one-less run (l .loop .i) (m .before .loop-test .taken))),
-      put-entries (l .loop .out) (l .loop .at) _ _ _ _ _ _ _ _ (omega (arith, room c)) (m .motor-of .ensures) (c .before .column .ensures) (c .divided .ensures) next (l .loop .inv .3),
+      put-entries (l .loop .out) (l .loop .at) _ _ _ _ _ _ _ _ (omega (arith, room c)) (m .read-motor .ensures) (c .before .column .ensures) (c .divided .ensures) next (l .loop .inv .3),
     )
 
 same-length : tie.Need-same-length Inv-loop μ-loop
@@ -124,7 +124,7 @@ divide-spec =
     μ-loop
     loop-holds
     sub-loop
-    motor-of-requires
+    read-motor-requires
     column-requires
     divided-requires
     mul-out

@@ -30,11 +30,11 @@ abbrev μ-loop : tie.MeasureT-loop
 loop-holds : tie.Need-loop-holds Inv-loop μ-loop
 loop-holds c = (omega arith, c .before .pre .1, refl)
 
-add-motor-at : tie.Need-add-motor-at Inv-loop μ-loop
-add-motor-at c = omega arith
+add-frame-motor : tie.Need-add-frame-motor Inv-loop μ-loop
+add-frame-motor c = omega arith
 
-motor-at-requires : tie.Need-motor-at-requires Inv-loop μ-loop
-motor-at-requires c κs = omega arith
+frame-motor-requires : tie.Need-frame-motor-requires Inv-loop μ-loop
+frame-motor-requires c κs = omega arith
 
 mul-at : tie.Need-mul-at Inv-loop μ-loop
 mul-at c = omega arith
@@ -77,7 +77,7 @@ loop-again c =
     let on = frame-on (a .first) (a .count) fits (a .half-x) (a .half-y) (a .reaction) (a .dir) (l .loop .m) (c .before .loop-test .taken) in (
       omega arith,
       simp length-set (l .loop .inv .1),
-      put-motor (l .loop .out) (l .loop .m) _ _ _ _ _ (omega arith) (c .motor-at .ensures) on (l .loop .inv .2),
+      put-motor (l .loop .out) (l .loop .m) _ _ _ _ _ (omega arith) (c .frame-motor .ensures) on (l .loop .inv .2),
     )
 
 same-length : tie.Need-same-length Inv-loop μ-loop
@@ -99,8 +99,8 @@ place-spec =
     Inv-loop
     μ-loop
     loop-holds
-    add-motor-at
-    motor-at-requires
+    add-frame-motor
+    frame-motor-requires
     mul-at
     mul-out
     slice-write-out

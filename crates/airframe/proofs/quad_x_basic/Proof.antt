@@ -1,5 +1,5 @@
 use borrow.Author.Needs.{needs}
-use Rattle.airframe.specs.Airframe.{quadX}
+use Rattle.airframe.specs.Airframe.{callQuadXBasic}
 use Rattle.airframe.proofs.quad_x_basic.Statement.{statement}
 use Rattle.airframe.proofs.quad_x_basic.Tie as tie
 
@@ -7,7 +7,7 @@ quad-requires : tie.Need-quad-requires
 quad-requires c κs = search needs
 
 returns : tie.Need-returns
-unfolding quadX
+unfolding callQuadXBasic
 returns c = cc
 
 pub quad-x-basic-spec : {M : Type 1} → statement M

@@ -34,8 +34,8 @@ loop-holds c = (omega arith, refl)
 sub-loop : tie.Need-sub-loop Inv-loop μ-loop
 sub-loop c = omega arith
 
-motor-of-requires : tie.Need-motor-of-requires Inv-loop μ-loop
-motor-of-requires c κs = omega arith
+read-motor-requires : tie.Need-read-motor-requires Inv-loop μ-loop
+read-motor-requires c κs = omega arith
 
 column-requires : tie.Need-column-requires Inv-loop μ-loop
 column-requires c κs = search needs
@@ -53,7 +53,7 @@ loop-again : tie.Need-loop-again Inv-loop μ-loop
 loop-again c =
     let m = c .before .before in
     let l = m .before .before in
-    (omega arith, turn _ _ _ _ _ _ _ _ (m .motor-of .ensures) (c .before .column .ensures) (c .add-squares .ensures) (motors-on (l .before .before .args .motors .now) (l .loop .i) (m .before .loop-test .taken)) (l .loop .inv .1))
+    (omega arith, turn _ _ _ _ _ _ _ _ (m .read-motor .ensures) (c .before .column .ensures) (c .add-squares .ensures) (motors-on (l .before .before .args .motors .now) (l .loop .i) (m .before .loop-test .taken)) (l .loop .inv .1))
 
 returns : tie.Need-returns Inv-loop μ-loop
 returns c =
@@ -68,7 +68,7 @@ row-sums-spec =
     μ-loop
     loop-holds
     sub-loop
-    motor-of-requires
+    read-motor-requires
     column-requires
     add-squares-requires
     add-i

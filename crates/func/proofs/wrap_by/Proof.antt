@@ -1,5 +1,5 @@
-use Rattle.func.specs.Func.{above, fall, rise, wrapBy}
-use Rattle.func.specs.WrapLaws.{wrap-starts, wrap-refused, fall-end, rise-end}
+use Rattle.func.specs.Func.{above, fall, rise, callWrapBy}
+use Rattle.func.specs.WrapLaws.{wrap-starts, wrap-by-refused, fall-end, rise-end}
 use Rattle.func.proofs.Turns.{fall-turn, fall-full, rise-turn, rise-full}
 use mathlib.Core.Path.{_≡_, sym, _∙_}
 use Prim.Native.Nat.{_≤_, _-_}
@@ -9,13 +9,13 @@ use Rattle.func.proofs.wrap_by.Statement.{statement}
 use Rattle.func.proofs.wrap_by.Tie as tie
 
 abbrev Inv-loop : tie.InvT-loop
-Inv-loop num min max closed width n₀ steps₀ n steps = (steps ≤ 64) × (wrapBy (above closed) num min max ≡ rise (above closed max) (64 - steps) steps n min width)
+Inv-loop num min max closed width n₀ steps₀ n steps = (steps ≤ 64) × (callWrapBy (above closed) num min max ≡ rise (above closed max) (64 - steps) steps n min width)
 
 abbrev μ-loop : tie.MeasureT-loop
 μ-loop num min max closed width n₀ steps₀ n steps = 64 - steps
 
 abbrev Inv-loop2 : tie.InvT-loop2
-Inv-loop2 num min max closed width n₀ steps₀ n steps = (steps ≤ 64) × (wrapBy (above closed) num min max ≡ fall (above closed max) (64 - steps) steps n width)
+Inv-loop2 num min max closed width n₀ steps₀ n steps = (steps ≤ 64) × (callWrapBy (above closed) num min max ≡ fall (above closed max) (64 - steps) steps n width)
 
 abbrev μ-loop2 : tie.MeasureT-loop2
 μ-loop2 num min max closed width n₀ steps₀ n steps = 64 - steps
@@ -90,7 +90,7 @@ refused-requires-3 c κs = search needs
 returns-4 : tie.Need-returns-4 Inv-loop μ-loop Inv-loop2 μ-loop2
 returns-4 c =
     let a = c .before .before .args in
-    c .refused3 .ensures ∙ sym (wrap-refused (above (a .closed)) _ _ _ (c .before .if1 .left))
+    c .refused3 .ensures ∙ sym (wrap-by-refused (above (a .closed)) _ _ _ (c .before .if1 .left))
 
 pub wrap-by-spec : {M : Type 1} → statement M
 wrap-by-spec =

@@ -41,7 +41,7 @@ use denote.Triple.Spec.{Meets, tripleOf}
 use denote.Triple.Table.{entered, cited}
 use denote.Triple.Walked.{says, Stays, stay-ref, stay-none, walkOf, AllGo, goes-none, goes-ref, Walks, ends-at, walked, walk-meets}
 use denote.Exit.{yes}
-use Rattle.rate_pid.specs.RatePid.{callUpdate}
+use Rattle.rate_pid.specs.RatePid.{callUpdateRatePid}
 use Rattle.rate_pid.specs.declared.RatePid.{RatePid}
 use Rattle.rate_pid.specs.declared.Updated.{Updated}
 use Rattle.rate_pid.specs.declared.Answer.{Answer}
@@ -81,8 +81,8 @@ module _ {M : Type 1} (𝓤 : URA M) (H : Heap 𝓤) (A : Atoms 𝓤) (at-mem : 
   Update = tripleOf 𝓤 H A g.signature (g.spec 𝓤 H A at-mem run)
 
   -- of its `ensured`, the clause alone
-  says-of : (h : RatePid) (x y z : Float) (r : Updated) → ent 𝓤 (ensured 𝓤 H A g.ended (g.clauses 𝓤 H A at-mem run) tt (h, (x, (y, (z, tt)))) tt r) (fact 𝓤 (r ≡ callUpdate h x y z))
-  says-of h x y z r = exE 𝓤 _ (λ ws. snd∗ 𝓤 (sem 𝓤 H A (lasts g.ended tt (h, (x, (y, (z, tt)))) ws)) (fact 𝓤 (r ≡ callUpdate h x y z)))
+  says-of : (h : RatePid) (x y z : Float) (r : Updated) → ent 𝓤 (ensured 𝓤 H A g.ended (g.clauses 𝓤 H A at-mem run) tt (h, (x, (y, (z, tt)))) tt r) (fact 𝓤 (r ≡ callUpdateRatePid h x y z))
+  says-of h x y z r = exE 𝓤 _ (λ ws. snd∗ 𝓤 (sem 𝓤 H A (lasts g.ended tt (h, (x, (y, (z, tt)))) ws)) (fact 𝓤 (r ≡ callUpdateRatePid h x y z)))
 
 module _ {M : Type 1} (𝓤 : URA M) (H : Heap 𝓤) (A : Atoms 𝓤) (W : Given 𝓤 H A) (at-mem : Memory → SProp 𝓤) (run : Routine → Fun 𝓤) (κ : Lft) (q : Share) (b o : ℕ) (γ : GName) (h : RatePid) (x y z : Float)
     (xok : fits binary32 x ≡ true) (yok : fits binary32 y ≡ true) (zok : fits binary32 z ≡ true) where
@@ -95,7 +95,7 @@ module _ {M : Type 1} (𝓤 : URA M) (H : Heap 𝓤) (A : Atoms 𝓤) (W : Given
   abbrev Post : Val → SProp 𝓤
   Post = walkOf 𝓤 H A f.ended stayed (f.clauses 𝓤 H A at-mem run) .post (((κ, tt), (q, tt), tt, a, at), tt)
 
-  exits : (r : Updated) → r ≡ callUpdate h x y z → Is P.the-row (r .answer) (machV (r .answer) ∷ []) → ent 𝓤 (sep 𝓤 (A .obs γ (T.the-row .coded .code (r .pid))) (sep 𝓤 (A .bor κ (Body (mem T.the-row) b o γ)) (A .lft κ q))) (Post (machV (r .answer)))
+  exits : (r : Updated) → r ≡ callUpdateRatePid h x y z → Is P.the-row (r .answer) (machV (r .answer) ∷ []) → ent 𝓤 (sep 𝓤 (A .obs γ (T.the-row .coded .code (r .pid))) (sep 𝓤 (A .bor κ (Body (mem T.the-row) b o γ)) (A .lft κ q))) (Post (machV (r .answer)))
   exits r e ok =
       qed W (‵ (fobs γ (T.the-row .coded .code (r .pid))) ∷ ‵ (fbor κ (Body (mem T.the-row) b o γ)) ∷ ‵ (flft κ q) ∷ []) ∵
       suffices ! _ (ends-at 𝓤 H A f.ended stayed (f.clauses 𝓤 H A at-mem run) W (((κ, tt), (q, tt), tt, a, at), tt) (machV (r .answer)) (r .answer) (r .pid, (tt, (tt, (tt, tt)))) (tt, (tt, (tt, (tt, tt))))) $
@@ -134,7 +134,7 @@ module _ {M : Type 1} (𝓤 : URA M) (H : Heap 𝓤) (A : Atoms 𝓤) (W : Given
         move ! (1 ∷ []) $ use1 W (raw (Update 𝓤 H A at-mem run .pre to-g)) goes-g $
         calls-at ! fm (Update 𝓤 H A at-mem run) known to-g (and-then ! (load ! (from ! (stop !)) (look ! 7 refl)) (and-then ! (load ! (from ! (stop !)) (look ! 13 refl)) (and-then ! (load ! (from ! (stop !)) (look ! 11 refl)) (and-then ! (load ! (from ! (stop !)) (look ! 9 refl)) (no-more !))))) (λ v.
         use1 W (later (some (λ (r : Updated). (‵ ftrue ⊛ ‵ (U.the-row .own r (v ∷ []))) ⊛ raw (ensured 𝓤 H A g.ended (g.clauses 𝓤 H A at-mem run) tt (h, (x, (y, (z, tt)))) tt r)))) (id⊢ 𝓤 _) $ await ! tt $ pick ! (λ r.
-        split ! $ move ! (1 ∷ []) $ use1 W (raw (fact 𝓤 (r ≡ callUpdate h x y z))) (says-of 𝓤 H A at-mem run h x y z r) $ heard ! (r ≡ callUpdate h x y z) (λ e. split ! $ drop ! $
+        split ! $ move ! (1 ∷ []) $ use1 W (raw (fact 𝓤 (r ≡ callUpdateRatePid h x y z))) (says-of 𝓤 H A at-mem run h x y z r) $ heard ! (r ≡ callUpdateRatePid h x y z) (λ e. split ! $ drop ! $
         peeks ! U.the-row (Is U.the-row) (shows 𝓤 H A U.the-row) r (v ∷ []) (λ is.
         land ! (from ! (stop !)) (init ! 5 refl (LL.lawful U.the-type U′.the-laws 𝓤 H A W .typed r _ is .0)) $
         rewrite ! 5 (λ (u : Val). ‵ (fat fullShare U′.mir l₆ 0 u)) (ap only (LL.tells U.the-type U′.the-laws r (v ∷ []) is)) refl $

@@ -4,8 +4,8 @@ use borrow.Author.Needs.{needs}
 use Rattle.calls.proofs.line.answer_in.Statement.{statement}
 use Rattle.calls.proofs.line.answer_in.Tie as tie
 
-tell-line-requires : tie.Need-tell-line-requires
-tell-line-requires c κs = search needs
+answer-line-requires : tie.Need-answer-line-requires
+answer-line-requires c κs = search needs
 
 enum-told : tie.Need-enum-told
 enum-told c = search needs
@@ -77,7 +77,7 @@ pub answer-in-spec : {M : Type 1} → statement M
 answer-in-spec =
     tie.close
     (tie.spec
-    tell-line-requires
+    answer-line-requires
     enum-told
     malformed-requires
     enum-known-refusal

@@ -1,7 +1,7 @@
 use mathlib.Core.Path.{sym, ap, _∙_}
 use borrow.Author.Needs.{needs}
 use Rattle.refusal.specs.declared.Refusal.the-variants as Refusal
-use Rattle.rate_pid.specs.RatePid.{told}
+use Rattle.rate_pid.specs.RatePid.{termsRatePid}
 use Rattle.rate_pid.specs.RatePidLaws.{get-terms-refused, get-terms-accepted}
 use Rattle.rate_pid.proofs.RatePid.get_terms.Statement.{statement}
 use Rattle.rate_pid.proofs.RatePid.get_terms.Tie as tie
@@ -13,7 +13,7 @@ default-requires : tie.Need-default-requires
 default-requires c κs = search needs
 
 returns : tie.Need-returns
-returns c = ap (told Refusal.Slew) (c .default .ensures) ∙ sym (get-terms-refused _ (sym (c .before .before .bad .ensures) ∙ c .before .if1 .taken))
+returns c = ap (termsRatePid Refusal.Slew) (c .default .ensures) ∙ sym (get-terms-refused _ (sym (c .before .before .bad .ensures) ∙ c .before .if1 .taken))
 
 returns-2 : tie.Need-returns-2
 returns-2 c = sym (get-terms-accepted _ (sym (c .before .before .bad .ensures) ∙ c .before .if1 .left))

@@ -1,5 +1,5 @@
 use borrow.Author.Needs.{needs}
-use Rattle.rate_pid.specs.RatePid.{newRate}
+use Rattle.rate_pid.specs.RatePid.{newRatePid}
 use Rattle.rate_pid.proofs.RatePid.new.Statement.{statement}
 use Rattle.rate_pid.proofs.RatePid.new.Tie as tie
 
@@ -13,7 +13,7 @@ new-requires-2 : tie.Need-new-requires-2
 new-requires-2 c κs = search needs
 
 returns : tie.Need-returns
-unfolding newRate
+unfolding newRatePid
 returns c = cc
 
 pub new-spec : {M : Type 1} → statement M

@@ -1,6 +1,6 @@
 use mathlib.Core.Path.{sym, _∙_}
 use borrow.Author.Needs.{needs}
-use Rattle.rate_pid.specs.RatePid.{resetRate, callResetIntegral}
+use Rattle.rate_pid.specs.RatePid.{resetIntegralRatePid, callResetIntegralRatePid}
 use Rattle.rate_pid.specs.RatePidLaws.{guard-passed, reset-integral-refused}
 use Rattle.rate_pid.proofs.RatePid.reset_integral.Statement.{statement}
 use Rattle.rate_pid.proofs.RatePid.reset_integral.Tie as tie
@@ -12,7 +12,7 @@ returns : tie.Need-returns
 returns c = sym (reset-integral-refused _ (sym (c .before .bad .ensures) ∙ c .if1 .taken))
 
 returns-2 : tie.Need-returns-2
-unfolding callResetIntegral resetRate
+unfolding callResetIntegralRatePid resetIntegralRatePid
 returns-2 c = sym (guard-passed _ (sym (c .before .bad .ensures) ∙ c .if1 .left) _)
 
 pub reset-integral-spec : {M : Type 1} → statement M

@@ -1,6 +1,6 @@
 use mathlib.Core.Path.{sym, _∙_}
 use borrow.Author.Needs.{needs}
-use Rattle.rate_pid.specs.RatePid.{badRate}
+use Rattle.rate_pid.specs.RatePid.{badRatePid}
 use Rattle.rate_pid.specs.RatePidLaws.{set-ts-refused}
 use Rattle.rate_pid.proofs.Steps.{timed}
 use Rattle.rate_pid.proofs.RatePid.set_ts.Statement.{statement}
@@ -16,7 +16,7 @@ set-dt-requires : tie.Need-set-dt-requires
 set-dt-requires c κs = search needs
 
 set-dt-requires-2 : tie.Need-set-dt-requires-2
-unfolding badRate
+unfolding badRatePid
 set-dt-requires-2 c κs = sym (c .before .before .before .bad .ensures) ∙ c .before .before .if1 .left
 
 with-slew-requires : tie.Need-with-slew-requires

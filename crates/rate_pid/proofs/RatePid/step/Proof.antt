@@ -1,13 +1,13 @@
 use mathlib.Core.Path.{ap}
 use borrow.Author.Needs.{needs}
 use Rattle.rate_pid.specs.declared.slew.Slewed.{Slewed}
-use Rattle.rate_pid.specs.RatePid.{badRate, slewedOf}
+use Rattle.rate_pid.specs.RatePid.{badRatePid, slewedOf}
 use Rattle.rate_pid.proofs.Steps.{stepped}
 use Rattle.rate_pid.proofs.RatePid.step.Statement.{statement}
 use Rattle.rate_pid.proofs.RatePid.step.Tie as tie
 
 update-requires : tie.Need-update-requires
-unfolding badRate
+unfolding badRatePid
 update-requires c κs = c .pre
 
 follow-requires : tie.Need-follow-requires

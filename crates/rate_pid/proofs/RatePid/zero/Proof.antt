@@ -1,5 +1,5 @@
 use borrow.Author.Needs.{needs}
-use Rattle.rate_pid.specs.RatePid.{zeroRate, zeroLowpass}
+use Rattle.rate_pid.specs.RatePid.{zeroRatePid, zeroLowpass}
 use Rattle.rate_pid.proofs.RatePid.zero.Statement.{statement}
 use Rattle.rate_pid.proofs.RatePid.zero.Tie as tie
 
@@ -7,7 +7,7 @@ default-requires : tie.Need-default-requires
 default-requires c κs = search needs
 
 returns : tie.Need-returns
-unfolding zeroRate zeroLowpass
+unfolding zeroRatePid zeroLowpass
 returns c = cc
 
 pub zero-spec : {M : Type 1} → statement M

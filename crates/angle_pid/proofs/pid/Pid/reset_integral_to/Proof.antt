@@ -1,6 +1,6 @@
 use Rattle.angle_pid.specs.Pid.{withIntegral}
 use borrow.Author.Needs.{needs}
-use Rattle.angle_pid.specs.Pid.{resetIntegralToPid}
+use Rattle.angle_pid.specs.Pid.{callResetIntegralToPid}
 use Rattle.angle_pid.proofs.pid.Pid.reset_integral_to.Statement.{statement}
 use Rattle.angle_pid.proofs.pid.Pid.reset_integral_to.Tie as tie
 
@@ -11,7 +11,7 @@ keep-requires : tie.Need-keep-requires
 keep-requires c κs = search needs
 
 returns : tie.Need-returns
-unfolding resetIntegralToPid withIntegral
+unfolding callResetIntegralToPid withIntegral
 returns c = simp (c .keep .ensures, c .before .refusal .ensures)
 
 pub reset-integral-to-spec : {M : Type 1} → statement M

@@ -1,6 +1,6 @@
 use Rattle.angle_pid.specs.Pid.{withGains}
 use borrow.Author.Needs.{needs}
-use Rattle.angle_pid.specs.Pid.{setGainsPid}
+use Rattle.angle_pid.specs.Pid.{callSetGainsPid}
 use Rattle.angle_pid.proofs.pid.Pid.set_gains.Statement.{statement}
 use Rattle.angle_pid.proofs.pid.Pid.set_gains.Tie as tie
 
@@ -11,7 +11,7 @@ keep-requires : tie.Need-keep-requires
 keep-requires c κs = search needs
 
 returns : tie.Need-returns
-unfolding setGainsPid withGains
+unfolding callSetGainsPid withGains
 returns c = simp (c .keep .ensures, c .before .refusal .ensures)
 
 pub set-gains-spec : {M : Type 1} → statement M

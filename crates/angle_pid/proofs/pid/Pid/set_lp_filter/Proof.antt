@@ -1,5 +1,5 @@
 use borrow.Author.Needs.{needs}
-use Rattle.angle_pid.specs.Pid.{setLpFilterPid}
+use Rattle.angle_pid.specs.Pid.{callSetLpFilterPid}
 use Rattle.angle_pid.proofs.pid.Pid.set_lp_filter.Statement.{statement}
 use Rattle.angle_pid.proofs.pid.Pid.set_lp_filter.Tie as tie
 
@@ -22,7 +22,7 @@ keep-requires : tie.Need-keep-requires
 keep-requires c κs = search needs
 
 returns : tie.Need-returns
-unfolding setLpFilterPid
+unfolding callSetLpFilterPid
 returns c =
     let d = c .before .before in
     let e = d .before .before in

@@ -1,5 +1,5 @@
 use borrow.Author.Needs.{needs}
-use Rattle.angle_pid.specs.Pid.{setWrappingPid}
+use Rattle.angle_pid.specs.Pid.{callSetWrappingPid}
 use Rattle.angle_pid.proofs.pid.Pid.set_wrapping.Statement.{statement}
 use Rattle.angle_pid.proofs.pid.Pid.set_wrapping.Tie as tie
 
@@ -19,7 +19,7 @@ keep-requires : tie.Need-keep-requires
 keep-requires c κs = search needs
 
 returns : tie.Need-returns
-unfolding setWrappingPid
+unfolding callSetWrappingPid
 returns c =
     let d = c .before .before in
     simp (c .keep .ensures, c .before .first .ensures, d .refusal2 .ensures, d .before .refusal .ensures, d .before .before .with-parts .ensures)

@@ -1,5 +1,5 @@
 use borrow.Author.Needs.{needs}
-use Rattle.angle_pid.specs.Pid.{configRefusal, configured, withConfigPid}
+use Rattle.angle_pid.specs.Pid.{configRefusal, withConfigPid, callWithConfigPid}
 use Rattle.angle_pid.proofs.pid.Pid.with_config.Statement.{statement}
 use Rattle.angle_pid.proofs.pid.Pid.with_config.Tie as tie
 
@@ -22,7 +22,7 @@ keep-requires : tie.Need-keep-requires
 keep-requires c κs = search needs
 
 returns : tie.Need-returns
-unfolding withConfigPid configRefusal configured
+unfolding callWithConfigPid configRefusal withConfigPid
 returns c =
     let d = c .before .before in
     let e = d .before .before in

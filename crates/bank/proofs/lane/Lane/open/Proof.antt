@@ -4,20 +4,20 @@ use borrow.Author.Needs.{needs}
 use Rattle.bank.proofs.lane.Lane.open.Statement.{statement}
 use Rattle.bank.proofs.lane.Lane.open.Tie as tie
 
-told-requires : tie.Need-told-requires
-told-requires c κs = search needs
+plain-step-requires : tie.Need-told-requires
+plain-step-requires c κs = search needs
 
 returns : tie.Need-returns
-returns c = open-open _ _ _ _ _ _ _ _ (c .before .if1 .taken) (c .told .ensures)
+returns c = open-open _ _ _ _ _ _ _ _ (c .before .if1 .taken) (c .plain-step .ensures)
 
 bad-requires : tie.Need-bad-requires
 bad-requires c κs = search needs
 
-told-requires-2 : tie.Need-told-requires-2
-told-requires-2 c κs = search needs
+plain-step-requires-2 : tie.Need-told-requires-2
+plain-step-requires-2 c κs = search needs
 
 returns-2 : tie.Need-returns-2
-returns-2 c = open-bad _ _ _ _ _ _ _ _ (c .before .before .before .before .if1 .left) (sym (c .before .before .bad .ensures) ∙ c .before .if2 .taken) (c .told2 .ensures)
+returns-2 c = open-bad _ _ _ _ _ _ _ _ (c .before .before .before .before .if1 .left) (sym (c .before .before .bad .ensures) ∙ c .before .if2 .taken) (c .plain-step2 .ensures)
 
 new-requires : tie.Need-new-requires
 new-requires c κs = search needs
@@ -34,15 +34,15 @@ enum-known-slew c = search needs
 bad-limit-requires : tie.Need-bad-limit-requires
 bad-limit-requires c κs = search needs
 
-told-requires-3 : tie.Need-told-requires-3
-told-requires-3 c κs = search needs
+plain-step-requires-3 : tie.Need-told-requires-3
+plain-step-requires-3 c κs = search needs
 
 returns-3 : tie.Need-returns-3
 returns-3 c =
     let tested = c .before .before .before .before .before .before .before in
     open-limit _ _ _ _ _ _ _ _ (tested .before .before .before .if1 .left) (sym (tested .before .bad .ensures) ∙ tested .if2 .left)
     _ (c .before .before .before .before .before .before .new .ensures) _ (c .before .before .before .before .slew .given .1)
-    (sym (c .before .before .bad-limit .ensures) ∙ c .before .if3 .taken) (c .told3 .ensures)
+    (sym (c .before .before .bad-limit .ensures) ∙ c .before .if3 .taken) (c .plain-step3 .ensures)
 
 slew-requires : tie.Need-slew-requires
 slew-requires c κs = search needs
@@ -67,17 +67,17 @@ pub open-spec : {M : Type 1} → statement M
 open-spec =
     tie.close
     (tie.spec
-    told-requires
+    plain-step-requires
     returns
     bad-requires
-    told-requires-2
+    plain-step-requires-2
     returns-2
     new-requires
     enum-told
     running-requires
     enum-known-slew
     bad-limit-requires
-    told-requires-3
+    plain-step-requires-3
     returns-3
     slew-requires
     heard-requires

@@ -1,5 +1,5 @@
 use borrow.Author.Needs.{needs}
-use Rattle.filters.specs.MovingAverage.{newMovingAverage}
+use Rattle.filters.specs.MovingAverage.{callNewMovingAverage}
 use Rattle.filters.proofs.moving_average.MovingAverage.new.Statement.{statement}
 use Rattle.filters.proofs.moving_average.MovingAverage.new.Tie as tie
 
@@ -7,7 +7,7 @@ new-with-value-requires : tie.Need-new-with-value-requires
 new-with-value-requires c κs = search needs
 
 returns : tie.Need-returns
-unfolding newMovingAverage
+unfolding callNewMovingAverage
 returns c = c .new-with-value .ensures
 
 pub new-spec : {M : Type 1} → statement M

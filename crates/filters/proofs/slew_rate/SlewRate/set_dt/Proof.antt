@@ -1,6 +1,6 @@
 use mathlib.Core.Path.{sym, _∙_}
 use borrow.Author.Needs.{needs}
-use Rattle.filters.specs.SlewRate.{slewSetDt}
+use Rattle.filters.specs.SlewRate.{setDtSlewRate}
 use Rattle.filters.specs.SlewRateLaws.{set-dt-refused, set-dt-accepted}
 use Rattle.filters.proofs.slew_rate.SlewRate.set_dt.Statement.{statement}
 use Rattle.filters.proofs.slew_rate.SlewRate.set_dt.Tie as tie
@@ -12,7 +12,7 @@ returns : tie.Need-returns
 returns c = sym (set-dt-refused _ _ (sym (c .before .bad-limit .ensures) ∙ c .if1 .taken))
 
 returns-2 : tie.Need-returns-2
-unfolding slewSetDt
+unfolding setDtSlewRate
 returns-2 c = sym (set-dt-accepted _ _ (sym (c .before .bad-limit .ensures) ∙ c .if1 .left))
 
 pub set-dt-spec : {M : Type 1} → statement M

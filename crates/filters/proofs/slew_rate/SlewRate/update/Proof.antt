@@ -1,6 +1,6 @@
 use mathlib.Core.Path.{sym, _∙_}
 use borrow.Author.Needs.{needs}
-use Rattle.filters.specs.SlewRate.{slewChange, slewStep}
+use Rattle.filters.specs.SlewRate.{slewChange, stepSlewRate}
 use Rattle.filters.specs.SlewRateLaws.{step-refused, step-accepted}
 use Rattle.filters.proofs.slew_rate.SlewRate.update.Statement.{statement}
 use Rattle.filters.proofs.slew_rate.SlewRate.update.Tie as tie
@@ -18,7 +18,7 @@ min-requires : tie.Need-min-requires
 min-requires c κs = search needs
 
 returns-2 : tie.Need-returns-2
-unfolding slewChange slewStep
+unfolding slewChange stepSlewRate
 returns-2 c =
     let f = c .before .before .before .before .before .before .before in
     let a = f .before .before .args in
