@@ -9,9 +9,9 @@ pub const WORDS: usize = 224;
 
 pub enum CallAnswer {
     // The line is none of this part's: another name, or other operands than the call of that name takes.
-    Nothing,
+    NotOurs,
     // The refusal's number, and how many words of the results are the answer's.
-    Answer(u32, usize),
+    Given(u32, usize),
 }
 
 // Whether the name is this one.

@@ -35,11 +35,11 @@ slice-aggregate-answer-call c = sym (length-take-le _ _ (omega arith))
 slice-reshare-prefix-answer-call : tie.Need-slice-reshare-prefix-answer-call
 slice-reshare-prefix-answer-call c = search needs
 
-slice-aggregate-answer-2 : tie.Need-slice-aggregate-answer-2
-slice-aggregate-answer-2 c = sym (length-take-le _ _ (omega arith))
+slice-aggregate-answer-call-2 : tie.Need-slice-aggregate-answer-call-2
+slice-aggregate-answer-call-2 c = sym (length-take-le _ _ (omega arith))
 
-answer-requires : tie.Need-answer-requires
-answer-requires c κs = search needs
+answer-call-requires : tie.Need-answer-call-requires
+answer-call-requires c κs = search needs
 
 same-length : tie.Need-same-length
 same-length c = search needs
@@ -73,8 +73,8 @@ answer-line-spec =
     operands-requires
     slice-aggregate-answer-call
     slice-reshare-prefix-answer-call
-    slice-aggregate-answer-2
-    answer-requires
+    slice-aggregate-answer-call-2
+    answer-call-requires
     same-length
     same-length-2
     same-length-3

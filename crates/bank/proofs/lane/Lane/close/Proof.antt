@@ -8,7 +8,7 @@ use Rattle.bank.proofs.lane.Lane.close.Tie as tie
 bad-requires : tie.Need-bad-requires
 bad-requires c κs = search needs
 
-plain-step-requires : tie.Need-told-requires
+plain-step-requires : tie.Need-plain-step-requires
 plain-step-requires c κs = search needs
 
 returns : tie.Need-returns
@@ -17,13 +17,13 @@ returns c = closed-bad _ (c .before .before .before .before .if1 .taken) _ (sym 
 closed-requires : tie.Need-closed-requires
 closed-requires c κs = search needs
 
-plain-step-requires-2 : tie.Need-told-requires-2
+plain-step-requires-2 : tie.Need-plain-step-requires-2
 plain-step-requires-2 c κs = search needs
 
 returns-2 : tie.Need-returns-2
 returns-2 c = closed-good _ (c .before .before .before .before .before .if1 .taken) _ (sym (c .before .before .before .bad .ensures) ∙ c .before .before .if2 .left) _ (c .before .closed .ensures) (c .plain-step2 .ensures)
 
-plain-step-requires-3 : tie.Need-told-requires-3
+plain-step-requires-3 : tie.Need-plain-step-requires-3
 plain-step-requires-3 c κs = search needs
 
 returns-3 : tie.Need-returns-3

@@ -4,7 +4,7 @@ use borrow.Author.Needs.{needs}
 use Rattle.bank.proofs.lane.Lane.open.Statement.{statement}
 use Rattle.bank.proofs.lane.Lane.open.Tie as tie
 
-plain-step-requires : tie.Need-told-requires
+plain-step-requires : tie.Need-plain-step-requires
 plain-step-requires c κs = search needs
 
 returns : tie.Need-returns
@@ -13,7 +13,7 @@ returns c = open-open _ _ _ _ _ _ _ _ (c .before .if1 .taken) (c .plain-step .en
 bad-requires : tie.Need-bad-requires
 bad-requires c κs = search needs
 
-plain-step-requires-2 : tie.Need-told-requires-2
+plain-step-requires-2 : tie.Need-plain-step-requires-2
 plain-step-requires-2 c κs = search needs
 
 returns-2 : tie.Need-returns-2
@@ -34,7 +34,7 @@ enum-known-slew c = search needs
 bad-limit-requires : tie.Need-bad-limit-requires
 bad-limit-requires c κs = search needs
 
-plain-step-requires-3 : tie.Need-told-requires-3
+plain-step-requires-3 : tie.Need-plain-step-requires-3
 plain-step-requires-3 c κs = search needs
 
 returns-3 : tie.Need-returns-3

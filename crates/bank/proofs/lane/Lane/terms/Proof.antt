@@ -10,7 +10,7 @@ get-terms-requires c κs = search needs
 returns : tie.Need-returns
 returns c = read-terms _ (c .before .before .before .if1 .taken) _ (c .before .get-terms .ensures)
 
-plain-step-requires : tie.Need-told-requires
+plain-step-requires : tie.Need-plain-step-requires
 plain-step-requires c κs = search needs
 
 returns-2 : tie.Need-returns-2

@@ -13,7 +13,7 @@ default-requires c κs = search needs
 returns : tie.Need-returns
 returns c = updated _ (c .before .before .before .before .before .if1 .taken) _ _ _ _ _ (c .before .before .before .update .ensures) (c .before .default .ensures)
 
-plain-step-requires : tie.Need-told-requires
+plain-step-requires : tie.Need-plain-step-requires
 plain-step-requires c κs = search needs
 
 returns-2 : tie.Need-returns-2
