@@ -7,15 +7,14 @@ use Rattle.float.specs.F32.{_+f_, _-f_, _*f_, _/f_}
 use Rattle.float.specs.Float.{absF, clampF}
 use Rattle.refusal.specs.declared.Refusal.the-variants as Refusal
 use Rattle.filters.specs.declared.lowpass.Lowpassed.{Lowpassed}
-use Rattle.filters.specs.declared.lowpass2.NthOrderLowpass.{NthOrderLowpass}
 use Rattle.filters.specs.declared.lowpass2.NthOrderLowpassed.{NthOrderLowpassed}
 use Rattle.filters.specs.declared.slew_rate.SlewRate.{SlewRate}
 use Rattle.filters.specs.declared.slew_rate.SlewRateChanged.{SlewRateChanged}
 use Rattle.filters.specs.declared.slew_rate.SlewRated.{SlewRated}
 use Rattle.filters.specs.Lowpass.{stepLowpass}
-use Rattle.filters.specs.Lowpass2.{setDtLowpass2, stepLowpass2}
-use Rattle.filters.specs.SlewRate.{badLimit, callNewSlewRate, callSetDtSlewRate, callUpdateSlewRate}
-use Rattle.filters.specs.SlewRateLaws.{new-accepted, set-dt-accepted, step-accepted}
+use Rattle.filters.specs.Lowpass2.{stepLowpass2}
+use Rattle.filters.specs.SlewRate.{badLimit, callNewSlewRate, callUpdateSlewRate}
+use Rattle.filters.specs.SlewRateLaws.{new-accepted, step-accepted}
 use Rattle.rate_pid.specs.declared.PidTerms.{PidTerms}
 use Rattle.rate_pid.specs.declared.RatePid.{RatePid}
 use Rattle.rate_pid.specs.declared.Integrated.{Integrated}
@@ -23,9 +22,9 @@ use Rattle.rate_pid.specs.declared.Advanced.{Advanced}
 use Rattle.rate_pid.specs.declared.slew.Slew.{Slew}
 use Rattle.rate_pid.specs.declared.slew.Slew.the-variants.{Off, On}
 use Rattle.rate_pid.specs.declared.slew.Slewed.{Slewed}
-use Rattle.rate_pid.specs.Slew.{badSlew, setDtSlew, stepSlew}
-use Rattle.rate_pid.specs.RatePid.{rateOf, slewedOf, filteredOf, dGainOf, refDerivativeOf, measDerivativeOf, calm, calmOf, dampedOf, dampingOf, grownOf, integrated, integratedOf, termsOf, stepRatePid, totalOf, summed, withSlew, advanced, slewRatePid, setTsRatePid, badRatePid, changedRatePid, updatedRatePid, callSlewRatePid, callSetTsRatePid, callUpdateRatePid}
-use Rattle.rate_pid.specs.RatePidLaws.{slew-accepted, guard-passed, update-accepted}
+use Rattle.rate_pid.specs.Slew.{badSlew, stepSlew}
+use Rattle.rate_pid.specs.RatePid.{slewedOf, filteredOf, dGainOf, refDerivativeOf, measDerivativeOf, calm, calmOf, dampedOf, dampingOf, grownOf, integrated, integratedOf, termsOf, stepRatePid, totalOf, summed, withSlew, advanced, slewRatePid, badRatePid, changedRatePid, updatedRatePid, guarded, callSlewRatePid, callUpdateRatePid}
+use Rattle.rate_pid.specs.RatePidLaws.{update-accepted}
 
 -- ---- a limiter whose limit is good does not refuse
 
@@ -33,10 +32,6 @@ module _ (d : Slew) (s : SlewRate) (x : Float) (good : badSlew d ≡ false) (on 
   limit-good : badLimit (s .«rate_limit») ≡ false
   unfolding badSlew
   limit-good = simp on at good
-
-  pub slew-set : (set : SlewRateChanged) → set ≡ callSetDtSlewRate s x → On (set .filter) ≡ setDtSlew d x
-  unfolding setDtSlew
-  slew-set set e = simp (on, e, set-dt-accepted s x limit-good)
 
   pub slew-stepped : (next : SlewRated) → next ≡ callUpdateSlewRate s x → record { y = next .y; slew = On (next .filter) } ≡ stepSlew d x
   unfolding stepSlew
@@ -72,13 +67,13 @@ module _ (x low : Float) (e : low ≡ cond (lt x F.minusOne) F.minusOne x) where
 
 module _ (s : RatePid) where
   -- both ways are worked out and one is taken
-  pub picked : (moves : Bool) (rate error size grown kept y : Float) (damped : Lowpassed) → size ≡ absF rate → damped ≡ stepLowpass (s .lowpass) size
+  pub picked : (moves : Bool) (derivative error size grown kept y : Float) (damped : Lowpassed) → size ≡ absF derivative → damped ≡ stepLowpass (s .lowpass) size
       → grown ≡ clampF (s .integral +f s .ki *f error *f s .dt /f (F.one +f damped .y)) F.minusOne F.one
       → kept ≡ cond moves grown (s .integral) → y ≡ cond moves (damped .y) (s .lowpass .y)
-      → record { integral = kept; lowpass = record { y = y; alpha0 = s .lowpass .alpha0; tau = s .lowpass .tau; alpha1 = s .lowpass .alpha1; dt = s .lowpass .dt } } ≡ integrated s moves rate error
+      → record { integral = kept; lowpass = record { y = y; alpha0 = s .lowpass .alpha0; tau = s .lowpass .tau; alpha1 = s .lowpass .alpha1; dt = s .lowpass .dt } } ≡ integrated s moves derivative error
   unfolding integrated grownOf dampingOf dampedOf stepLowpass
-  picked true rate error size grown kept y damped e1 e2 e3 e4 e5 = simp (e5, e4, e3, e2, e1)
-  picked false rate error size grown kept y damped e1 e2 e3 e4 e5 = simp (e5, e4)
+  picked true derivative error size grown kept y damped e1 e2 e3 e4 e5 = simp (e5, e4, e3, e2, e1)
+  picked false derivative error size grown kept y damped e1 e2 e3 e4 e5 = simp (e5, e4)
 
   pub followed : (r m p slewed y : Float) (filtered : NthOrderLowpassed) (moves : Bool) (next : Integrated)
       → slewed ≡ slewedOf s r → filtered ≡ stepLowpass2 (s .«d_lowpass») m
@@ -91,7 +86,20 @@ module _ (s : RatePid) where
         «dm_out» = s .kd /f s .dt *f (s .«prev_meas» -f filtered .y);
       } in
       y ≡ totalOf terms
-      → record { y = y; pid = rateOf (s .kp) (s .ki) (s .kd) (next .integral) (filtered .y) slewed terms (s .dt) (s .«integral_en») (next .lowpass) (filtered .filter) (s .«d_slew») }
+      → record { y = y; pid = record {
+          kp = s .kp;
+          ki = s .ki;
+          kd = s .kd;
+          integral = next .integral;
+          «prev_meas» = filtered .y;
+          «prev_ref» = slewed;
+          terms = terms;
+          dt = s .dt;
+          «integral_en» = s .«integral_en»;
+          lowpass = next .lowpass;
+          «d_lowpass» = filtered .filter;
+          «d_slew» = s .«d_slew»;
+      } }
       ≡ summed (withSlew (stepRatePid s r m p) (s .«d_slew»))
   unfolding stepRatePid termsOf integratedOf calmOf filteredOf refDerivativeOf measDerivativeOf dGainOf withSlew summed
   followed r m p slewed y filtered moves next e1 e2 e3 e4 e5 = simp (e5, e4, e3, e2, e1)
@@ -120,13 +128,8 @@ module _ (s : RatePid) where
     unfolding summed
     accepted r m p next e = simp (update-accepted s good r m p, e)
 
-    pub limited : (limit : Float) (made : SlewRateChanged) (pid : RatePid) → badLimit limit ≡ false → made ≡ callNewSlewRate limit (s .dt) → pid ≡ withSlew s (On (made .filter))
-        → changedRatePid Refusal.None pid ≡ callSlewRatePid s limit
-    unfolding slewRatePid
-    limited limit made pid g e1 e2 = simp (slew-accepted s good limit g, e2, e1, new-accepted limit (s .dt) g)
-
-    pub timed : (ts : Float) (filter : NthOrderLowpass) (slew : Slew) (pid : RatePid) → filter ≡ setDtLowpass2 (s .«d_lowpass») ts → slew ≡ setDtSlew (s .«d_slew») ts
-        → pid ≡ withSlew (rateOf (s .kp) (s .ki) (s .kd) (s .integral) (s .«prev_meas») (s .«prev_ref») (s .terms) ts (s .«integral_en») (s .lowpass) filter (s .«d_slew»)) slew
-        → changedRatePid Refusal.None pid ≡ callSetTsRatePid s ts
-    unfolding callSetTsRatePid setTsRatePid withSlew
-    timed ts filter slew pid e1 e2 e3 = simp (guard-passed s good, e3, e2, e1)
+  -- a limit given that is good
+  pub limited : (limit : Float) (made : SlewRateChanged) (pid : RatePid) → badLimit limit ≡ false → made ≡ callNewSlewRate limit (s .dt) → pid ≡ withSlew s (On (made .filter))
+      → guarded s (changedRatePid Refusal.None pid) ≡ callSlewRatePid s limit
+  unfolding callSlewRatePid slewRatePid
+  limited limit made pid g e1 e2 = simp (g, e2, e1, new-accepted limit (s .dt) g)

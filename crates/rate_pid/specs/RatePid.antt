@@ -32,13 +32,22 @@ zeroTerms = record { «p_out» = F.zero; «i_out» = F.zero; «dr_out» = F.zero
 unfoldable pub zeroLowpass : Lowpass
 zeroLowpass = record { tau = F.zero; dt = F.zero; y = F.zero; alpha0 = F.zero; alpha1 = F.zero }
 
--- the fields, in the Rust's order; its max_integral is always 1 and no field
-abbrev pub rateOf : Float → Float → Float → Float → Float → Float → PidTerms → Float → Bool → Lowpass → NthOrderLowpass → Slew → RatePid
-rateOf kp ki kd integral prevMeas prevRef terms dt on lowpass dLowpass dSlew = record { kp = kp; ki = ki; kd = kd; integral = integral; «prev_meas» = prevMeas; «prev_ref» = prevRef; terms = terms; dt = dt; «integral_en» = on; lowpass = lowpass; «d_lowpass» = dLowpass; «d_slew» = dSlew }
-
--- all zero, its switches off
+-- all zero, its switches off; the Rust's max_integral is always 1, and is no field here
 unfoldable pub zeroRatePid : RatePid
-zeroRatePid = rateOf F.zero F.zero F.zero F.zero F.zero F.zero zeroTerms F.zero false zeroLowpass (record { first = zeroLowpass; second = zeroLowpass }) Slew.Off
+zeroRatePid = record {
+  kp = F.zero;
+  ki = F.zero;
+  kd = F.zero;
+  integral = F.zero;
+  «prev_meas» = F.zero;
+  «prev_ref» = F.zero;
+  terms = zeroTerms;
+  dt = F.zero;
+  «integral_en» = false;
+  lowpass = zeroLowpass;
+  «d_lowpass» = record { first = zeroLowpass; second = zeroLowpass };
+  «d_slew» = Slew.Off;
+}
 
 -- ---- the parts of an update, whatever the limit: s is the state before it, r the reference, m the measurement, p the prediction
 
@@ -144,7 +153,20 @@ newRatePid kp ki kd tau dt = record {
 
 -- the limiter alone is another
 unfoldable pub withSlew : RatePid → Slew → RatePid
-withSlew s d = rateOf (s .kp) (s .ki) (s .kd) (s .integral) (s .«prev_meas») (s .«prev_ref») (s .terms) (s .dt) (s .«integral_en») (s .lowpass) (s .«d_lowpass») d
+withSlew s d = record {
+  kp = s .kp;
+  ki = s .ki;
+  kd = s .kd;
+  integral = s .integral;
+  «prev_meas» = s .«prev_meas»;
+  «prev_ref» = s .«prev_ref»;
+  terms = s .terms;
+  dt = s .dt;
+  «integral_en» = s .«integral_en»;
+  lowpass = s .lowpass;
+  «d_lowpass» = s .«d_lowpass»;
+  «d_slew» = d;
+}
 
 -- there is no limiter
 unfoldable pub unlimitedRatePid : RatePid → Bool
@@ -160,19 +182,71 @@ slewRatePid s limit = withSlew s (Slew.On (slewOf limit F.zero (s .dt)))
 
 -- dt, and that of the measurement's filter and of the limiter; the damping filter keeps its own
 unfoldable pub setTsRatePid : RatePid → Float → RatePid
-setTsRatePid s ts = rateOf (s .kp) (s .ki) (s .kd) (s .integral) (s .«prev_meas») (s .«prev_ref») (s .terms) ts (s .«integral_en») (s .lowpass) (setDtLowpass2 (s .«d_lowpass») ts) (setDtSlew (s .«d_slew») ts)
+setTsRatePid s ts = record {
+  kp = s .kp;
+  ki = s .ki;
+  kd = s .kd;
+  integral = s .integral;
+  «prev_meas» = s .«prev_meas»;
+  «prev_ref» = s .«prev_ref»;
+  terms = s .terms;
+  dt = ts;
+  «integral_en» = s .«integral_en»;
+  lowpass = s .lowpass;
+  «d_lowpass» = setDtLowpass2 (s .«d_lowpass») ts;
+  «d_slew» = setDtSlew (s .«d_slew») ts;
+}
 
 -- the three gains; kd is stored as kd·kp
 unfoldable pub setGainsRatePid : RatePid → Float → Float → Float → RatePid
-setGainsRatePid s kp ki kd = rateOf kp ki (kd *f kp) (s .integral) (s .«prev_meas») (s .«prev_ref») (s .terms) (s .dt) (s .«integral_en») (s .lowpass) (s .«d_lowpass») (s .«d_slew»)
+setGainsRatePid s kp ki kd = record {
+  kp = kp;
+  ki = ki;
+  kd = kd *f kp;
+  integral = s .integral;
+  «prev_meas» = s .«prev_meas»;
+  «prev_ref» = s .«prev_ref»;
+  terms = s .terms;
+  dt = s .dt;
+  «integral_en» = s .«integral_en»;
+  lowpass = s .lowpass;
+  «d_lowpass» = s .«d_lowpass»;
+  «d_slew» = s .«d_slew»;
+}
 
 -- the integral's switch alone
 unfoldable pub enableIntegralRatePid : RatePid → Bool → RatePid
-enableIntegralRatePid s on = rateOf (s .kp) (s .ki) (s .kd) (s .integral) (s .«prev_meas») (s .«prev_ref») (s .terms) (s .dt) on (s .lowpass) (s .«d_lowpass») (s .«d_slew»)
+enableIntegralRatePid s on = record {
+  kp = s .kp;
+  ki = s .ki;
+  kd = s .kd;
+  integral = s .integral;
+  «prev_meas» = s .«prev_meas»;
+  «prev_ref» = s .«prev_ref»;
+  terms = s .terms;
+  dt = s .dt;
+  «integral_en» = on;
+  lowpass = s .lowpass;
+  «d_lowpass» = s .«d_lowpass»;
+  «d_slew» = s .«d_slew»;
+}
 
 -- the integral alone
 unfoldable pub resetIntegralRatePid : RatePid → RatePid
-resetIntegralRatePid s = rateOf (s .kp) (s .ki) (s .kd) F.zero (s .«prev_meas») (s .«prev_ref») (s .terms) (s .dt) (s .«integral_en») (s .lowpass) (s .«d_lowpass») (s .«d_slew»)
+resetIntegralRatePid s = record {
+  kp = s .kp;
+  ki = s .ki;
+  kd = s .kd;
+  integral = F.zero;
+  «prev_meas» = s .«prev_meas»;
+  «prev_ref» = s .«prev_ref»;
+  terms = s .terms;
+  dt = s .dt;
+  «integral_en» = s .«integral_en»;
+  lowpass = s .lowpass;
+  «d_lowpass» = s .«d_lowpass»;
+  «d_slew» = s .«d_slew»;
+}
 
 -- ---- its calls: refused, each leaves the state, and its numbers are +0
 

@@ -63,16 +63,21 @@ module _ (s : RatePid) (bad : badRatePid s ≡ true) where
   unfolding callGetTermsRatePid
   get-terms-refused = simp bad
 
+-- a bad limit given is refused as a bad one stored is
+pub slew-limit-refused : (s : RatePid) (limit : Float) → badLimit limit ≡ true → callSlewRatePid s limit ≡ changedRatePid Refusal.Slew s
+unfolding callSlewRatePid guarded
+slew-limit-refused s limit b = go (badRatePid s)
+  where
+    go : (t : Bool) → cond t (changedRatePid Refusal.Slew s) (cond (badLimit limit) (changedRatePid Refusal.Slew s) (changedRatePid Refusal.None (slewRatePid s limit))) ≡ changedRatePid Refusal.Slew s
+    go true = refl
+    go false = simp b
+
 -- ---- a state that is not bad: only a bad limit given to `slew` is refused
 
 module _ (s : RatePid) (good : badRatePid s ≡ false) where
   pub guard-passed : (next : Changed) → guarded s next ≡ next
   unfolding guarded
   guard-passed next = simp good
-
-  pub slew-limit-refused : (limit : Float) → badLimit limit ≡ true → callSlewRatePid s limit ≡ changedRatePid Refusal.Slew s
-  unfolding callSlewRatePid
-  slew-limit-refused limit b = simp (guard-passed, b)
 
   pub slew-accepted : (limit : Float) → badLimit limit ≡ false → callSlewRatePid s limit ≡ changedRatePid Refusal.None (slewRatePid s limit)
   unfolding callSlewRatePid

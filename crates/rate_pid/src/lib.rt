@@ -6,7 +6,8 @@ ghost use mathlib.Core.Bool.{false, cond, _&&_};
 ghost use lib.Ieee.{lt};
 ghost use Rattle.float.specs.F32 as F;
 ghost use Rattle.float.specs.Float.{absF, clampF};
-ghost use Rattle.rate_pid.specs.RatePid.{zeroTerms, zeroRatePid, totalOf, calm, integrated, badRatePid, slewedOf, withSlew, newRatePid, stepRatePid, callSlewRatePid, callSetTsRatePid, callSetGainsRatePid, callEnableIntegralRatePid, callResetIntegralRatePid, callEnableResetIntegralRatePid, callUpdateRatePid, callGetTermsRatePid, unlimitedRatePid, summed, advanced};
+ghost use Rattle.refusal.specs.declared.Refusal.the-variants as Refusal;
+ghost use Rattle.rate_pid.specs.RatePid.{zeroTerms, zeroRatePid, totalOf, calm, integrated, badRatePid, changedRatePid, guarded, slewedOf, withSlew, newRatePid, stepRatePid, callSlewRatePid, callSetTsRatePid, callSetGainsRatePid, callEnableIntegralRatePid, callResetIntegralRatePid, callEnableResetIntegralRatePid, callUpdateRatePid, callGetTermsRatePid, unlimitedRatePid, summed, advanced};
 
 mod slew;
 
@@ -174,11 +175,11 @@ impl RatePid {
     }
 
     // What the integral and the damping filter become if they move is worked out in any case, and kept only if they do.
-    fn integrate(self, moves: bool, rate: f32, error: f32) -> Integrated
-        ensures { λ r. ⌜ r ≡ integrated self moves rate error ⌝ }
+    fn integrate(self, moves: bool, derivative: f32, error: f32) -> Integrated
+        ensures { λ r. ⌜ r ≡ integrated self moves derivative error ⌝ }
     {
         let old = self.lowpass;
-        let damped = old.update(float::abs(rate));
+        let damped = old.update(float::abs(derivative));
         let damping = 1.0 + damped.y;
         let sum = self.integral + self.ki * error * self.dt / damping;
         let grown = clamp_to_one(sum);
@@ -310,14 +311,22 @@ impl RatePid {
         }
     }
 
-    // The state's own limit is tested before the one given.
-    pub fn slew(self, limit: f32) -> Changed
-        ensures { λ r. ⌜ r ≡ callSlewRatePid self limit ⌝ }
+    // What `slew` and the setters give: the state that they make or, where the stored limit is bad, the state as it was.
+    fn keep(self, next: RatePid) -> Changed
+        ensures { λ r. ⌜ r ≡ guarded self (changedRatePid Refusal.None next) ⌝ }
     {
         if self.bad() {
             let refusal = Refusal::Slew;
             return Changed { refusal, pid: self };
         }
+        let refusal = Refusal::None;
+        Changed { refusal, pid: next }
+    }
+
+    // A bad limit given is refused as a bad limit stored is: it does not matter which of the two is tested first.
+    pub fn slew(self, limit: f32) -> Changed
+        ensures { λ r. ⌜ r ≡ callSlewRatePid self limit ⌝ }
+    {
         if filters::bad_limit(limit) {
             let refusal = Refusal::Slew;
             return Changed { refusal, pid: self };
@@ -325,79 +334,56 @@ impl RatePid {
         let made = SlewRate::new(limit, self.dt);
         let filter = made.filter;
         let d_slew = Slew::On(filter);
-        let refusal = Refusal::None;
-        let pid = self.with_slew(d_slew);
-        Changed { refusal, pid }
+        self.keep(self.with_slew(d_slew))
     }
 
     // The damping filter keeps its sample time.
-    pub fn set_ts(mut self, ts: f32) -> Changed
+    pub fn set_ts(self, ts: f32) -> Changed
         ensures { λ r. ⌜ r ≡ callSetTsRatePid self ts ⌝ }
     {
-        if self.bad() {
-            let refusal = Refusal::Slew;
-            return Changed { refusal, pid: self };
-        }
         let filter = self.d_lowpass;
         let d_lowpass = filter.set_dt(ts);
         let slew = self.d_slew;
         let d_slew = slew.set_dt(ts);
-        self.dt = ts;
-        self.d_lowpass = d_lowpass;
-        let refusal = Refusal::None;
-        let pid = self.with_slew(d_slew);
-        Changed { refusal, pid }
+        let mut next = self;
+        next.dt = ts;
+        next.d_lowpass = d_lowpass;
+        self.keep(next.with_slew(d_slew))
     }
 
-    pub fn set_gains(mut self, kp: f32, ki: f32, kd: f32) -> Changed
+    pub fn set_gains(self, kp: f32, ki: f32, kd: f32) -> Changed
         ensures { λ r. ⌜ r ≡ callSetGainsRatePid self kp ki kd ⌝ }
     {
-        if self.bad() {
-            let refusal = Refusal::Slew;
-            return Changed { refusal, pid: self };
-        }
-        self.kp = kp;
-        self.ki = ki;
-        self.kd = kd * kp;
-        let refusal = Refusal::None;
-        Changed { refusal, pid: self }
+        let mut next = self;
+        next.kp = kp;
+        next.ki = ki;
+        next.kd = kd * kp;
+        self.keep(next)
     }
 
-    pub fn enable_integral(mut self, enable: bool) -> Changed
+    pub fn enable_integral(self, enable: bool) -> Changed
         ensures { λ r. ⌜ r ≡ callEnableIntegralRatePid self enable ⌝ }
     {
-        if self.bad() {
-            let refusal = Refusal::Slew;
-            return Changed { refusal, pid: self };
-        }
-        self.integral_en = enable;
-        let refusal = Refusal::None;
-        Changed { refusal, pid: self }
+        let mut next = self;
+        next.integral_en = enable;
+        self.keep(next)
     }
 
-    pub fn reset_integral(mut self) -> Changed
+    pub fn reset_integral(self) -> Changed
         ensures { λ r. ⌜ r ≡ callResetIntegralRatePid self ⌝ }
     {
-        if self.bad() {
-            let refusal = Refusal::Slew;
-            return Changed { refusal, pid: self };
-        }
-        self.integral = 0.0;
-        let refusal = Refusal::None;
-        Changed { refusal, pid: self }
+        let mut next = self;
+        next.integral = 0.0;
+        self.keep(next)
     }
 
-    pub fn enable_reset_integral(mut self, enable: bool) -> Changed
+    pub fn enable_reset_integral(self, enable: bool) -> Changed
         ensures { λ r. ⌜ r ≡ callEnableResetIntegralRatePid self enable ⌝ }
     {
-        if self.bad() {
-            let refusal = Refusal::Slew;
-            return Changed { refusal, pid: self };
-        }
-        self.integral_en = enable;
-        self.integral = 0.0;
-        let refusal = Refusal::None;
-        Changed { refusal, pid: self }
+        let mut next = self;
+        next.integral_en = enable;
+        next.integral = 0.0;
+        self.keep(next)
     }
 
     pub fn update(self, reference: f32, measurement: f32, prediction: f32) -> Updated

@@ -1,5 +1,5 @@
-// The Rust's Option of a slew rate limiter. Its calls are the crate's own: the controller tests the limit before it makes
-// one of the last two.
+// The Rust's Option of a slew rate limiter. Its calls are the crate's own: the controller tests the limit before it updates
+// one.
 ghost use mathlib.Core.Path.{_≡_};
 ghost use mathlib.Core.Bool.{false};
 ghost use Rattle.rate_pid.specs.Slew.{isOff, badSlew, setDtSlew, stepSlew};
@@ -36,14 +36,13 @@ impl Slew {
     }
 
     pub(crate) fn set_dt(self, dt: f32) -> Self
-        requires { ⌜ badSlew self ≡ false ⌝ }
         ensures { λ r. ⌜ r ≡ setDtSlew self dt ⌝ }
     {
         match self {
             Slew::Off => Slew::Off,
             Slew::On(s) => {
-                let set = s.set_dt(dt);
-                let filter = set.filter;
+                let mut filter = s;
+                filter.dt = dt;
                 Slew::On(filter)
             }
         }
