@@ -143,3 +143,7 @@ callQuadXBasic xDist yDist reaction outspin = quad 0 xDist yDist reaction outspi
 
 unfoldable pub callQuadPBasic : Float → Float → Float → Bool → Mixing
 callQuadPBasic xDist yDist reaction reverse = quad 4 xDist yDist reaction reverse
+
+-- the Rust's constant DEV_QUAD_MOTOR_SETUP: the X frame of 0.165, 0.225 and 0.1
+unfoldable pub devQuadMotorSetup : Mixing
+devQuadMotorSetup = callQuadXBasic (Ieee.ofBits Ieee.binary32 0x3e28_f5c3) (Ieee.ofBits Ieee.binary32 0x3e66_6666) (Ieee.ofBits Ieee.binary32 0x3dcc_cccd) false

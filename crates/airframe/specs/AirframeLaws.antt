@@ -8,6 +8,7 @@ use native.Mathlib.Omega.{arith}
 use lib.ListN.{length, getD, take, drop, set, replicate, length-append, length-drop, length-replicate, replicate-append-replicate, drop-of-length-le}
 use lib.Seq.{drop-cons, sets, sets-eq, take-at, length-take-le, take-all, take-suc-set, getD-take, getD-drop}
 use lib.IntN.{ℤ, pos}
+use lib.Ieee as Ieee
 use lib.Ieee.{Float, nan, inf, fin, lt, ofBits}
 use lib.Ieee.Positive.{positive}
 use borrow.Author.Tests.{lt-ltb}
@@ -18,7 +19,8 @@ use Rattle.refusal.specs.declared.Refusal.the-variants as Refusal
 use Rattle.airframe.specs.declared.Signs.{Signs}
 use Rattle.airframe.specs.declared.Motor.{Motor}
 use Rattle.airframe.specs.declared.Rows.{Rows}
-use Rattle.airframe.specs.Airframe.{motor, column, divided, four, sumsOf, goodSum, goodSums, entries, zeros, refusalOf, matrixOf, motorsOf, flat, signs, table, signsAt, rowsFrom, frameMotor, frame}
+use Rattle.airframe.specs.Airframe as A
+use Rattle.airframe.specs.Airframe.{motor, column, divided, four, sumsOf, goodSum, goodSums, entries, zeros, refusalOf, matrixOf, motorsOf, flat, signs, table, signsAt, rowsFrom, frameMotor, frame, devQuadMotorSetup}
 
 -- ---- a run of motors, from a place on
 module _ (l : List Float) (i : ℕ) where
@@ -191,3 +193,9 @@ zero-more l k h e = rw (add-one, take-suc-set l k F.zero h, e) (replicate-append
 
 pub all-zeros : (l : List Float) (k n : ℕ) → take k l ≡ zeros k → k ≡ length l → length l ≡ n → l ≡ zeros n
 all-zeros l k n e h q = rw (← q, ← h) (sym (take-all k l (omega arith)) ∙ e)
+
+-- ---- the Rust's constant frame is not refused
+pub dev-quad-accepted : devQuadMotorSetup .refusal ≡ Refusal.None
+unfolding Ieee.ofBits Ieee.add Ieee.mul Ieee.div Ieee.neg Ieee.lt
+    A.column A.addSquares A.sums A.sumsOf A.goodSum A.goodSums A.refusalOf A.table A.rowsFrom A.signed A.frameMotor A.frame A.dirOf A.quadMotors A.mixed A.quad A.callQuadXBasic A.devQuadMotorSetup
+dev-quad-accepted = refl

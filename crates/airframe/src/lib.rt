@@ -4,7 +4,7 @@ ghost use mathlib.Core.Path.{_≡_};
 ghost use Prim.Native.Nat.{_+_, _*_, _<_, _≤_};
 ghost use lib.Ieee.{nan};
 ghost use lib.ListN.{length, getD};
-ghost use Rattle.airframe.specs.Airframe.{signsAt, signed, motor, frameMotor, flat, frame, rowsFrom, motorsOf, column, addSquares, divided, sumsOf, goodSum, goodSums, entries, zeros, refusalOf, matrixOf, dirOf, quad, callQuadXBasic, callQuadPBasic};
+ghost use Rattle.airframe.specs.Airframe.{signsAt, signed, motor, frameMotor, flat, frame, rowsFrom, motorsOf, column, addSquares, divided, sumsOf, goodSum, goodSums, entries, zeros, refusalOf, matrixOf, dirOf, quad, callQuadXBasic, callQuadPBasic, devQuadMotorSetup};
 use refusal::Refusal;
 
 // What a frame gives: four numbers a motor, the motors in the Rust's order. The Rust makes a `MotorSetup` and asks it for
@@ -275,4 +275,11 @@ pub fn quad_p_basic(
     ensures { λ r. ⌜ r ≡ callQuadPBasic «x_motor_spacing» «y_motor_spacing» reaction reverse ⌝ }
 {
     quad(4, x_motor_spacing, y_motor_spacing, reaction, reverse)
+}
+
+// The Rust's constant DEV_QUAD_MOTOR_SETUP, as a function: a constant cannot hold a call here.
+pub fn dev_quad_motor_setup() -> Mixing
+    ensures { λ r. ⌜ r ≡ devQuadMotorSetup ⌝ }
+{
+    quad_x_basic(0.165, 0.225, 0.1, false)
 }

@@ -6,7 +6,7 @@ mod range;
 pub use lp_filter::LpFilter;
 pub use lp_filter::Tau;
 pub use pid::Pid;
-pub use pid::PidConfig;
 pub use pid::PidChanged;
+pub use pid::PidConfig;
 pub use pid::PidUpdated;
 pub use range::Range;

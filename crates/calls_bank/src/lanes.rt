@@ -3,9 +3,9 @@ ghost use Prim.Native.Nat.{_<_};
 use bank::Bank;
 use bank::Lane;
 use calls_controllers::states;
-use rate_pid::PidTerms;
 use calls_words::CallAnswer;
 use calls_words::places;
+use rate_pid::PidTerms;
 
 fn lane_at(w: &[u32], at: usize) -> Lane
     requires { ⌜ at < 1000 ⌝ }

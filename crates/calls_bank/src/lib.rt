@@ -4,9 +4,9 @@ mod lanes;
 use bank::Bank;
 use bank::Banked;
 use bank::SlewLimit;
-use rate_pid::PidTerms;
 use calls_words::CallAnswer;
 use calls_words::places;
+use rate_pid::PidTerms;
 
 // An answer's numbers are an update's value or the terms, and none for the other calls.
 struct BankAnswer {
@@ -54,7 +54,13 @@ fn on_bank(name: &[u8], ops: &[u32], lane: usize, b: Bank) -> BankAnswer {
         2 => of_one(name, ops, lane, b),
         4 => of_three(name, ops, lane, b),
         6 => of_five(name, ops, lane, SlewLimit::Off, b),
-        7 => of_five(name, ops, lane, SlewLimit::At(calls_words::number(ops, 6)), b),
+        7 => of_five(
+            name,
+            ops,
+            lane,
+            SlewLimit::At(calls_words::number(ops, 6)),
+            b,
+        ),
         _ => nothing(b),
     }
 }

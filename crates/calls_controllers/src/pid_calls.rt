@@ -1,8 +1,8 @@
 // The angle controller: crate angle_pid. Functions by the count of operands make the call on the state, and one keeps the state.
 use super::states;
 use angle_pid::Pid;
-use angle_pid::PidConfig;
 use angle_pid::PidChanged;
+use angle_pid::PidConfig;
 use angle_pid::PidUpdated;
 use angle_pid::Tau;
 use calls_words::CallAnswer;
@@ -15,7 +15,12 @@ struct PidAnswer {
     pid: Pid,
 }
 
-pub(crate) fn answer_call(name: &[u8], ops: &[u32], states: &mut [u32], res: &mut [u32]) -> CallAnswer {
+pub(crate) fn answer_call(
+    name: &[u8],
+    ops: &[u32],
+    states: &mut [u32],
+    res: &mut [u32],
+) -> CallAnswer {
     let pid = states::pid_at(states, places::PID);
     if calls_words::is(name, b"pid.show", ops, 0) {
         states::put_pid(res, 0, pid);

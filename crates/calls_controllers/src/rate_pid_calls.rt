@@ -1,10 +1,10 @@
 // The rate controller: crate rate_pid. Functions by the count of operands make the call on the state, and one keeps the state.
 use super::states;
+use calls_words::CallAnswer;
+use calls_words::places;
 use rate_pid::Changed;
 use rate_pid::RatePid;
 use rate_pid::Updated;
-use calls_words::CallAnswer;
-use calls_words::places;
 
 struct RatePidAnswer {
     answer: CallAnswer,
@@ -12,7 +12,12 @@ struct RatePidAnswer {
     pid: RatePid,
 }
 
-pub(crate) fn answer_call(name: &[u8], ops: &[u32], states: &mut [u32], res: &mut [u32]) -> CallAnswer {
+pub(crate) fn answer_call(
+    name: &[u8],
+    ops: &[u32],
+    states: &mut [u32],
+    res: &mut [u32],
+) -> CallAnswer {
     let pid = states::rate_pid_at(states, places::RATE_PID);
     if calls_words::is(name, b"rate_pid.show", ops, 0) {
         states::put_rate_pid(res, 0, pid);
@@ -51,29 +56,41 @@ fn on_rate_pid(name: &[u8], ops: &[u32], pid: RatePid) -> RatePidAnswer {
 
 fn nothing(pid: RatePid) -> RatePidAnswer {
     let answer = CallAnswer::NotOurs;
-    RatePidAnswer { answer, y: 0.0, pid }
+    RatePidAnswer {
+        answer,
+        y: 0.0,
+        pid,
+    }
 }
 
 fn taken(pid: RatePid) -> RatePidAnswer {
     let answer = CallAnswer::Given(0, 0);
-    RatePidAnswer { answer, y: 0.0, pid }
+    RatePidAnswer {
+        answer,
+        y: 0.0,
+        pid,
+    }
 }
 
 fn changed(c: Changed) -> RatePidAnswer {
     let refusal = c.refusal;
     let pid = c.pid;
     let answer = calls_words::answered(refusal, 0);
-    RatePidAnswer { answer, y: 0.0, pid }
+    RatePidAnswer {
+        answer,
+        y: 0.0,
+        pid,
+    }
 }
 
 fn updated(u: Updated) -> RatePidAnswer {
-    let answer = u.answer;
-    let refusal = answer.refusal;
+    let result = u.answer;
+    let refusal = result.refusal;
     let pid = u.pid;
     let answer = calls_words::answered(refusal, 1);
     RatePidAnswer {
         answer,
-        y: answer.y,
+        y: result.y,
         pid,
     }
 }

@@ -5,10 +5,10 @@ use angle_pid::LpFilter;
 use angle_pid::Pid;
 use angle_pid::Range;
 use calls_filters::states;
+use calls_words::places;
 use rate_pid::PidTerms;
 use rate_pid::RatePid;
 use rate_pid::Slew;
-use calls_words::places;
 
 // Where the parts of a rate controller stand among its words, after its six numbers.
 const TERMS: usize = 6;

@@ -16,6 +16,10 @@ pub(crate) fn answer_call(name: &[u8], ops: &[u32], res: &mut [u32]) -> CallAnsw
     CallAnswer::NotOurs
 }
 
+pub(crate) fn answer_dev_quad(res: &mut [u32]) -> CallAnswer {
+    mixed(airframe::dev_quad_motor_setup(), res)
+}
+
 fn mixed(m: Mixing, res: &mut [u32]) -> CallAnswer {
     let refusal = m.refusal;
     let matrix = m.matrix;

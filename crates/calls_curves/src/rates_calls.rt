@@ -1,11 +1,11 @@
 // Curves: crate rates.
+use calls_words::CallAnswer;
 use rates::expo_rates::ExpoRates;
 use rates::expo_rates::RatesType;
 use rates::linear::Linear;
 use rates::rates as curve;
 use rates::rates::Actual;
 use rates::rates::Rates;
-use calls_words::CallAnswer;
 
 pub(crate) fn answer_call(name: &[u8], ops: &[u32], res: &mut [u32]) -> CallAnswer {
     if calls_words::begins(name, b"rates.") {

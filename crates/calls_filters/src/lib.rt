@@ -1,6 +1,8 @@
 // The filters: crate filters. Of each type, one function makes its call on the state, and one keeps the state.
 pub mod states;
 
+use calls_words::CallAnswer;
+use calls_words::places;
 use filters::Complementary;
 use filters::Highpass;
 use filters::IntegratingComplementary;
@@ -9,8 +11,6 @@ use filters::Lowpass;
 use filters::MovingAverage;
 use filters::NthOrderLowpass;
 use filters::SlewRate;
-use calls_words::CallAnswer;
-use calls_words::places;
 
 pub fn answer_call(name: &[u8], ops: &[u32], states: &mut [u32], res: &mut [u32]) -> CallAnswer {
     if calls_words::begins(name, b"lowpass.") {
@@ -391,7 +391,12 @@ fn integrating_highpass(
     }
 }
 
-fn on_integrating_highpass(name: &[u8], ops: &[u32], states: &mut [u32], res: &mut [u32]) -> CallAnswer {
+fn on_integrating_highpass(
+    name: &[u8],
+    ops: &[u32],
+    states: &mut [u32],
+    res: &mut [u32],
+) -> CallAnswer {
     let f = states::integrating_highpass_at(states, places::INTEGRATING_HIGHPASS);
     if calls_words::is(name, b"integrating_highpass.show", ops, 0) {
         states::put_integrating_highpass(res, 0, f);
@@ -513,7 +518,10 @@ fn moving_average(name: &[u8], ops: &[u32], f: MovingAverage) -> MovingAverageAn
         };
     }
     if calls_words::is(name, b"moving_average.new_with_value", ops, 2) {
-        let made = MovingAverage::new_with_value(calls_words::word(ops, 0) as usize, calls_words::number(ops, 1));
+        let made = MovingAverage::new_with_value(
+            calls_words::word(ops, 0) as usize,
+            calls_words::number(ops, 1),
+        );
         let refusal = made.refusal;
         let filter = made.filter;
         let answer = calls_words::answered(refusal, 0);

@@ -1,7 +1,7 @@
 // The motor curve, and mean and variance: crates motor_lin and statistics.
 mod motor_lin_calls;
-mod statistics_calls;
 mod states;
+mod statistics_calls;
 
 use calls_words::CallAnswer;
 

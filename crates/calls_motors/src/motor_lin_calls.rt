@@ -1,12 +1,12 @@
 // The motor curve: crate motor_lin. One function makes the call on the state, and one keeps the state.
 use super::states;
+use calls_words::CallAnswer;
+use calls_words::places;
 use motor_lin::Command;
 use motor_lin::Commanded;
 use motor_lin::Forced;
 use motor_lin::MotorLin;
 use motor_lin::Thrust;
-use calls_words::CallAnswer;
-use calls_words::places;
 
 struct MotorAnswer {
     answer: CallAnswer,
@@ -14,7 +14,12 @@ struct MotorAnswer {
     motor: MotorLin,
 }
 
-pub(crate) fn answer_call(name: &[u8], ops: &[u32], states: &mut [u32], res: &mut [u32]) -> CallAnswer {
+pub(crate) fn answer_call(
+    name: &[u8],
+    ops: &[u32],
+    states: &mut [u32],
+    res: &mut [u32],
+) -> CallAnswer {
     let motor = states::motor_lin_at(states, places::MOTOR_LIN);
     if calls_words::is(name, b"motor_lin.show", ops, 0) {
         states::put_motor_lin(res, 0, motor);

@@ -1,9 +1,9 @@
 // Mean and variance: crate statistics. One function makes the call on the state, and one keeps the state.
 use super::states;
-use statistics::Changed;
-use statistics::Statistics;
 use calls_words::CallAnswer;
 use calls_words::places;
+use statistics::Changed;
+use statistics::Statistics;
 
 struct StatisticsAnswer {
     answer: CallAnswer,
@@ -12,7 +12,12 @@ struct StatisticsAnswer {
     statistics: Statistics,
 }
 
-pub(crate) fn answer_call(name: &[u8], ops: &[u32], states: &mut [u32], res: &mut [u32]) -> CallAnswer {
+pub(crate) fn answer_call(
+    name: &[u8],
+    ops: &[u32],
+    states: &mut [u32],
+    res: &mut [u32],
+) -> CallAnswer {
     let s = states::statistics_at(states, places::STATISTICS);
     if calls_words::is(name, b"statistics.show", ops, 0) {
         states::put_statistics(res, 0, s);

@@ -9,7 +9,7 @@ use lib.Ieee as Ieee
 use lib.Ieee.{Float, nan, binary32, ofBits}
 use Rattle.float.specs.Float.{absF, fifthF, clampF, maxF, minF, negative}
 use Rattle.refusal.specs.declared.Refusal.the-variants as Refusal
-use Rattle.root.specs.Root.{root, rootBits, seek, reaches, fourfold, middle, scaled, ofParts}
+use Rattle.root.specs.Root.{root, rootBits, seek, reaches, fourfold, twiceMiddle, scaled, ofParts}
 use Rattle.func.specs.Func.{callWrap, settled, refused, rise, fall}
 use Rattle.filters.specs.MovingAverage.{callNewMovingAverage, callNewWithValueMovingAverage, callUpdateMovingAverage, badLength, badWindow, windowOf, windowStore, windowMean}
 use Rattle.filters.specs.SlewRate.{callNewSlewRate, callUpdateSlewRate, badLimit, slewChange, stepSlewRate}
@@ -73,6 +73,6 @@ pub rows
 unfolding ofBits Ieee.toBits Ieee.add Ieee.sub Ieee.mul Ieee.div Ieee.neg Ieee.lt Ieee.le Ieee.isNan Ieee.ofInt
     absF fifthF clampF maxF minF negative callWrap rise fall applyActual callGet among within holds segment
     callNewMovingAverage callNewWithValueMovingAverage callUpdateMovingAverage badLength badWindow windowOf windowStore windowMean callNewSlewRate callUpdateSlewRate badLimit slewChange stepSlewRate
-    callNewMotorLin callCommandToForce callForceToCommand inForce inCommand badMotor newMotorLin thrustOf commandOf root rootBits seek reaches fourfold middle scaled ofParts
-    A.column A.addSquares A.sums A.sumsOf A.goodSum A.goodSums A.divided A.four A.entries A.zeros A.refusalOf A.matrixOf A.motorsOf A.flat A.table A.signsAt A.rowsFrom A.signed A.newMotorLin A.frame A.dirOf A.quadMotors A.mixed A.quad A.callQuadXBasic A.callQuadPBasic
+    callNewMotorLin callCommandToForce callForceToCommand inForce inCommand badMotor newMotorLin thrustOf commandOf root rootBits seek reaches fourfold twiceMiddle scaled ofParts
+    A.column A.addSquares A.sums A.sumsOf A.goodSum A.goodSums A.divided A.four A.entries A.zeros A.refusalOf A.matrixOf A.motorsOf A.flat A.table A.signsAt A.rowsFrom A.signed A.frameMotor A.frame A.dirOf A.quadMotors A.mixed A.quad A.callQuadXBasic A.callQuadPBasic
 rows = (refl, refl, refl, refl, refl, refl, refl, λ px py x. refl, refl, refl, refl, refl, refl, refl, refl, refl, refl, refl)

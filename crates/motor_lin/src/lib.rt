@@ -1,6 +1,6 @@
 // motor_lin.rs: the curve between a motor's command and its thrust.
 ghost use mathlib.Core.Path.{_≡_};
-ghost use Rattle.motor_lin.specs.MotorLin.{thrustOf, commandOf, badMotor, zeroMotor, newMotorLin, callNewMotorLin, callCommandToForce, callForceToCommand, callMinForce, callMaxForce};
+ghost use Rattle.motor_lin.specs.MotorLin.{thrustOf, commandOf, badMotor, zeroMotor, newMotorLin, inForce, inCommand, callNewMotorLin, callCommandToForce, callForceToCommand, callMinForce, callMaxForce};
 use refusal::Refusal;
 
 // The two units. One is not accepted where the other is asked for.
@@ -114,59 +114,66 @@ impl MotorLin {
         Made { refusal, motor }
     }
 
-    pub fn command_to_force(self, command: Command) -> Forced
-        ensures { λ r. ⌜ r ≡ callCommandToForce self command ⌝ }
+    // An answer in thrust, and one in command: +0 where the motor is refused.
+    fn in_force(self, force: Thrust) -> Forced
+        ensures { λ r. ⌜ r ≡ inForce self force ⌝ }
     {
         if self.bad() {
             let refusal = Refusal::Motor;
-            let force = Thrust(0.0);
-            return Forced { refusal, force };
+            let none = Thrust(0.0);
+            return Forced {
+                refusal,
+                force: none,
+            };
         }
+        let refusal = Refusal::None;
+        Forced { refusal, force }
+    }
+
+    fn in_command(self, command: Command) -> Commanded
+        ensures { λ r. ⌜ r ≡ inCommand self command ⌝ }
+    {
+        if self.bad() {
+            let refusal = Refusal::Motor;
+            let none = Command(0.0);
+            return Commanded {
+                refusal,
+                command: none,
+            };
+        }
+        let refusal = Refusal::None;
+        Commanded { refusal, command }
+    }
+
+    pub fn command_to_force(self, command: Command) -> Forced
+        ensures { λ r. ⌜ r ≡ callCommandToForce self command ⌝ }
+    {
         let low = self.c_min;
         let high = self.c_max;
-        let refusal = Refusal::None;
         let force = Thrust(thrust_of(self.a, self.b, low.0, high.0, command.0));
-        Forced { refusal, force }
+        self.in_force(force)
     }
 
     pub fn force_to_command(self, force: Thrust) -> Commanded
         ensures { λ r. ⌜ r ≡ callForceToCommand self force ⌝ }
     {
-        if self.bad() {
-            let refusal = Refusal::Motor;
-            let command = Command(0.0);
-            return Commanded { refusal, command };
-        }
         let low = self.f_min;
         let high = self.f_max;
-        let refusal = Refusal::None;
         let command = Command(command_of(self.a, self.b, low.0, high.0, force.0));
-        Commanded { refusal, command }
+        self.in_command(command)
     }
 
     pub fn min_force(self) -> Forced
         ensures { λ r. ⌜ r ≡ callMinForce self ⌝ }
     {
-        if self.bad() {
-            let refusal = Refusal::Motor;
-            let force = Thrust(0.0);
-            return Forced { refusal, force };
-        }
-        let refusal = Refusal::None;
         let force = self.f_min;
-        Forced { refusal, force }
+        self.in_force(force)
     }
 
     pub fn max_force(self) -> Forced
         ensures { λ r. ⌜ r ≡ callMaxForce self ⌝ }
     {
-        if self.bad() {
-            let refusal = Refusal::Motor;
-            let force = Thrust(0.0);
-            return Forced { refusal, force };
-        }
-        let refusal = Refusal::None;
         let force = self.f_max;
-        Forced { refusal, force }
+        self.in_force(force)
     }
 }

@@ -86,7 +86,9 @@ module _ (s : RatePid) where
         «dm_out» = s .kd /f s .dt *f (s .«prev_meas» -f filtered .y);
       } in
       y ≡ totalOf terms
-      → record { y = y; pid = record {
+      → record {
+        y = y;
+        pid = record {
           kp = s .kp;
           ki = s .ki;
           kd = s .kd;
@@ -99,7 +101,8 @@ module _ (s : RatePid) where
           lowpass = next .lowpass;
           «d_lowpass» = filtered .filter;
           «d_slew» = s .«d_slew»;
-      } }
+        };
+      }
       ≡ summed (withSlew (stepRatePid s r m p) (s .«d_slew»))
   unfolding stepRatePid termsOf integratedOf calmOf filteredOf refDerivativeOf measDerivativeOf dGainOf withSlew summed
   followed r m p slewed y filtered moves next e1 e2 e3 e4 e5 = simp (e5, e4, e3, e2, e1)

@@ -2,8 +2,8 @@
 use lib.Ieee.{Float}
 use Rattle.float.specs.F32.{_-f_, _*f_, _/f_}
 
-unfoldable pub slope : Float → Float → Float → Float → Float
-slope inMin inMax outMin outMax = (outMax -f outMin) /f (inMax -f inMin)
+unfoldable pub slopeOf : Float → Float → Float → Float → Float
+slopeOf inMin inMax outMin outMax = (outMax -f outMin) /f (inMax -f inMin)
 
-unfoldable pub start : Float → Float → Float → Float → Float
-start inMin inMax outMin outMax = outMin -f inMin *f (outMax -f outMin) /f (inMax -f inMin)
+unfoldable pub offsetOf : Float → Float → Float → Float → Float
+offsetOf inMin inMax outMin outMax = outMin -f inMin *f (outMax -f outMin) /f (inMax -f inMin)

@@ -1,6 +1,7 @@
 // `Linear` of filters/mod.rs: the straight line a · x + b.
 ghost use mathlib.Core.Path.{_≡_};
 ghost use Rattle.rates.specs.Linear.{newLinear, linearDefault, mapLinear, paramsOf};
+use crate::line;
 
 pub struct Linear {
     pub factor: f32,
@@ -25,8 +26,8 @@ impl Linear {
         ensures { λ r. ⌜ r ≡ newLinear «in_min» «in_max» «out_min» «out_max» ⌝ }
     {
         Linear {
-            factor: (out_max - out_min) / (in_max - in_min),
-            offset: out_min - in_min * (out_max - out_min) / (in_max - in_min),
+            factor: line::slope(in_min, in_max, out_min, out_max),
+            offset: line::offset(in_min, in_max, out_min, out_max),
         }
     }
 

@@ -1,6 +1,7 @@
 // rates.rs: the curves that a stick's position goes through.
 ghost use mathlib.Core.Path.{_≡_};
-ghost use Rattle.rates.specs.Rates.{ratesDefault, actualDefault, linearDefault, ratesOf, applyRates, applyActual, newLinear, applyLinear};
+ghost use Rattle.rates.specs.Rates.{ratesDefault, actualDefault, linearCurveDefault, ratesOf, applyRates, applyActual, newLinearCurve, applyLinearCurve};
+use crate::line;
 
 // A curve: none, one with an "expo" response, or a straight line.
 pub enum Rates {
@@ -73,7 +74,7 @@ impl Actual {
 
 impl Linear {
     pub fn default() -> Self
-        ensures { λ r. ⌜ r ≡ linearDefault ⌝ }
+        ensures { λ r. ⌜ r ≡ linearCurveDefault ⌝ }
     {
         Linear {
             fact: 1.0,
@@ -83,30 +84,30 @@ impl Linear {
 
     // The line through (in_min, out_min) and (in_max, out_max).
     pub fn new(in_min: f32, in_max: f32, out_min: f32, out_max: f32) -> Self
-        ensures { λ r. ⌜ r ≡ newLinear «in_min» «in_max» «out_min» «out_max» ⌝ }
+        ensures { λ r. ⌜ r ≡ newLinearCurve «in_min» «in_max» «out_min» «out_max» ⌝ }
     {
         Linear {
-            fact: (out_max - out_min) / (in_max - in_min),
-            offs: out_min - in_min * (out_max - out_min) / (in_max - in_min),
+            fact: line::slope(in_min, in_max, out_min, out_max),
+            offs: line::offset(in_min, in_max, out_min, out_max),
         }
     }
 
     // Sets both numbers anew, whatever they were.
     pub fn set(self, in_min: f32, in_max: f32, out_min: f32, out_max: f32) -> Self
-        ensures { λ r. ⌜ r ≡ newLinear «in_min» «in_max» «out_min» «out_max» ⌝ }
+        ensures { λ r. ⌜ r ≡ newLinearCurve «in_min» «in_max» «out_min» «out_max» ⌝ }
     {
         Linear::new(in_min, in_max, out_min, out_max)
     }
 
     // The same as `set`, under the Rust's second name for it.
     pub fn set_params(self, in_min: f32, in_max: f32, out_min: f32, out_max: f32) -> Self
-        ensures { λ r. ⌜ r ≡ newLinear «in_min» «in_max» «out_min» «out_max» ⌝ }
+        ensures { λ r. ⌜ r ≡ newLinearCurve «in_min» «in_max» «out_min» «out_max» ⌝ }
     {
         Linear::new(in_min, in_max, out_min, out_max)
     }
 
     pub fn apply(self, val: f32) -> f32
-        ensures { λ r. ⌜ r ≡ applyLinear self val ⌝ }
+        ensures { λ r. ⌜ r ≡ applyLinearCurve self val ⌝ }
     {
         val * self.fact + self.offs
     }

@@ -5,7 +5,7 @@ use crate::generator::{Line, Maker};
 use crate::protocol::{Answer, Call, Calls, Table};
 use crate::random::Random;
 use crate::values::floats;
-use holsatus::airframe::MotorSetup;
+use holsatus::airframe::{DEV_QUAD_MOTOR_SETUP, MotorSetup};
 use holsatus::refusals;
 
 const CALLS: &[Call<()>] = &[
@@ -18,6 +18,11 @@ const CALLS: &[Call<()>] = &[
         name: "quad_p_basic",
         form: "fffb",
         run: |_, x, to| mixed(&MotorSetup::quad_p_basic(x.float(0), x.float(1), x.float(2), x.flag(3)), to),
+    },
+    Call {
+        name: "dev_quad_motor_setup",
+        form: "",
+        run: |_, _, to| mixed(&DEV_QUAD_MOTOR_SETUP, to),
     },
 ];
 
@@ -53,6 +58,9 @@ pub fn tables() -> Vec<Box<dyn Calls>> {
 
 pub fn lines() -> Box<Maker> {
     Box::new(|r: &mut Random, to: &mut Line| {
+        if r.below(64) == 0 {
+            return to.call("dev_quad_motor_setup", &[]);
+        }
         let [x_dist, y_dist, reaction] = floats(r);
         let flag = r.below(2) as u32;
         to.call(r.one_of(&["quad_x_basic", "quad_p_basic"]), &[x_dist, y_dist, reaction, flag]);
