@@ -12,7 +12,7 @@ use Rattle.bank.specs.declared.Bank.{Bank}
 use Rattle.bank.specs.Lane.{callLane}
 use Rattle.bank.specs.LaneLaws.{BoundedLane, closed-bounded, step-bounded}
 use Rattle.bank.specs.Single.{Single, none, singleMachine, callSingle, singleRun, singleAfter}
-use Rattle.bank.specs.SingleLaws.{laneOf, Good, step-as}
+use Rattle.bank.specs.SingleLaws.{laneOf, Good, step-same}
 use Rattle.bank.specs.Bank.{freshBank, Eight, laneAt, callBank}
 use Rattle.bank.specs.BankLaws.{fresh-eight, fresh-closed, step-eight, named, others}
 use Rattle.bank.specs.Runs.{bankMachine, run, after, laneMachine, laneRun, laneAfter}
@@ -25,9 +25,9 @@ after-eight = left-keeps bankMachine Eight (λ b q n. step-eight b (q .lane) (q 
 single-follows : Follows laneMachine singleMachine laneOf Good
 single-follows =
     record {
-      answer = λ c op g. ap (λ (s : _). s .answer) (step-as c op g .same);
-      next = λ c op g. ap (λ (s : _). s .lane) (step-as c op g .same);
-      good = λ c op g. step-as c op g .good;
+      answer = λ c op g. ap (λ (s : _). s .answer) (step-same c op g .same);
+      next = λ c op g. ap (λ (s : _). s .lane) (step-same c op g .same);
+      good = λ c op g. step-same c op g .good;
     }
 
 pub single-run : (ops : List Op) (c : Single) → Good c → Followed laneMachine singleMachine laneOf Good ops c

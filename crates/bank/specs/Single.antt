@@ -28,12 +28,12 @@ pub record Next : Type 0 where
 abbrev pub says : Refusal → Single → Next
 says why c = record { answer = plain why; single = c }
 
-unfoldable pub newSingle : RatePid → SlewLimit → Next
-newSingle s Off = says Refusal.None (one s)
-newSingle s (At limit) = cond (badLimit limit) (says Refusal.Slew none) (says Refusal.None (one (slewRatePid s limit)))
+unfoldable pub openedSingle : RatePid → SlewLimit → Next
+openedSingle s Off = says Refusal.None (one s)
+openedSingle s (At limit) = cond (badLimit limit) (says Refusal.Slew none) (says Refusal.None (one (slewRatePid s limit)))
 
 unfoldable pub callSingle : Single → Op → Next
-callSingle none (Open kp ki kd tau dt slew) = newSingle (newRatePid kp ki kd tau dt) slew
+callSingle none (Open kp ki kd tau dt slew) = openedSingle (newRatePid kp ki kd tau dt) slew
 callSingle none Close = says Refusal.Closed none
 callSingle none (Update r m p) = says Refusal.Closed none
 callSingle none (SetTs ts) = says Refusal.Closed none

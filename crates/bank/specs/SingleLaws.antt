@@ -13,7 +13,7 @@ use Rattle.bank.specs.declared.lane.Op.{Op}
 use Rattle.bank.specs.declared.lane.Op.the-variants.{Open, Close, Update, SetTs, SetGains, EnableIntegral, ResetIntegral, ReadTerms}
 use Rattle.bank.specs.declared.lane.Stepped.{Stepped}
 use Rattle.bank.specs.Lane.{closedLane, openLane, stepped, whenOpen, whenGood, opened, callLane}
-use Rattle.bank.specs.Single.{Single, none, one, Next, newSingle, callSingle}
+use Rattle.bank.specs.Single.{Single, none, one, Next, openedSingle, callSingle}
 
 -- the lane in which it lies
 abbrev pub laneOf : Single → Lane
@@ -26,36 +26,36 @@ Good none = Unit
 Good (one s) = badRatePid s ≡ false
 
 -- the lane's step is the controller's, which stays good
-pub record As (next : Stepped) (n : Next) : Type 0 where
+pub record SameStep (next : Stepped) (n : Next) : Type 0 where
   pub same : next ≡ stepped (n .answer) (laneOf (n .single))
   pub good : Good (n .single)
 
-opened-as : (s : RatePid) (slew : SlewLimit) → badRatePid s ≡ false → As (opened closedLane s slew) (newSingle s slew)
-unfolding opened newSingle
-opened-as s Off g = record { same = refl; good = g }
-opened-as s (At limit) g = go (badLimit limit) refl
+opened-same : (s : RatePid) (slew : SlewLimit) → badRatePid s ≡ false → SameStep (opened closedLane s slew) (openedSingle s slew)
+unfolding opened openedSingle
+opened-same s Off g = record { same = refl; good = g }
+opened-same s (At limit) g = go (badLimit limit) refl
   where
-    go : (t : Bool) → badLimit limit ≡ t → As (opened closedLane s (At limit)) (newSingle s (At limit))
+    go : (t : Bool) → badLimit limit ≡ t → SameStep (opened closedLane s (At limit)) (openedSingle s (At limit))
     go true e = record { same = simp e; good = simp e tt }
     go false e = record { same = simp (e, slew-accepted s g limit e); good = simp e (limit-limit s limit ∙ e) }
 
-pub step-as : (c : Single) (op : Op) → Good c → As (callLane (laneOf c) op) (callSingle c op)
+pub step-same : (c : Single) (op : Op) → Good c → SameStep (callLane (laneOf c) op) (callSingle c op)
 unfolding callLane callSingle whenOpen whenGood closedLane callSetTsRatePid callSetGainsRatePid callEnableIntegralRatePid callResetIntegralRatePid
-step-as none (Open kp ki kd tau dt slew) g =
-    let made = opened-as (newRatePid kp ki kd tau dt) slew (new-limit kp ki kd tau dt) in
+step-same none (Open kp ki kd tau dt slew) g =
+    let made = opened-same (newRatePid kp ki kd tau dt) slew (new-limit kp ki kd tau dt) in
     record { same = simp zero-limit (made .same); good = made .good }
-step-as none Close g = record { same = refl; good = tt }
-step-as none (Update r m p) g = record { same = refl; good = tt }
-step-as none (SetTs ts) g = record { same = refl; good = tt }
-step-as none (SetGains kp ki kd) g = record { same = refl; good = tt }
-step-as none (EnableIntegral on) g = record { same = refl; good = tt }
-step-as none ResetIntegral g = record { same = refl; good = tt }
-step-as none ReadTerms g = record { same = refl; good = tt }
-step-as (one s) (Open kp ki kd tau dt slew) g = record { same = refl; good = g }
-step-as (one s) Close g = record { same = simp g; good = tt }
-step-as (one s) (Update r m p) g = record { same = simp (update-accepted s g r m p); good = step-limit s r m p ∙ g }
-step-as (one s) (SetTs ts) g = record { same = simp (guard-passed s g); good = ts-limit s ts ∙ g }
-step-as (one s) (SetGains kp ki kd) g = record { same = simp (guard-passed s g); good = gains-limit s kp ki kd ∙ g }
-step-as (one s) (EnableIntegral on) g = record { same = simp (guard-passed s g); good = enable-limit s on ∙ g }
-step-as (one s) ResetIntegral g = record { same = simp (guard-passed s g); good = reset-limit s ∙ g }
-step-as (one s) ReadTerms g = record { same = simp (get-terms-accepted s g); good = g }
+step-same none Close g = record { same = refl; good = tt }
+step-same none (Update r m p) g = record { same = refl; good = tt }
+step-same none (SetTs ts) g = record { same = refl; good = tt }
+step-same none (SetGains kp ki kd) g = record { same = refl; good = tt }
+step-same none (EnableIntegral on) g = record { same = refl; good = tt }
+step-same none ResetIntegral g = record { same = refl; good = tt }
+step-same none ReadTerms g = record { same = refl; good = tt }
+step-same (one s) (Open kp ki kd tau dt slew) g = record { same = refl; good = g }
+step-same (one s) Close g = record { same = simp g; good = tt }
+step-same (one s) (Update r m p) g = record { same = simp (update-accepted s g r m p); good = step-limit s r m p ∙ g }
+step-same (one s) (SetTs ts) g = record { same = simp (guard-passed s g); good = ts-limit s ts ∙ g }
+step-same (one s) (SetGains kp ki kd) g = record { same = simp (guard-passed s g); good = gains-limit s kp ki kd ∙ g }
+step-same (one s) (EnableIntegral on) g = record { same = simp (guard-passed s g); good = enable-limit s on ∙ g }
+step-same (one s) ResetIntegral g = record { same = simp (guard-passed s g); good = reset-limit s ∙ g }
+step-same (one s) ReadTerms g = record { same = simp (get-terms-accepted s g); good = g }

@@ -77,14 +77,14 @@ fn nothing(bank: Bank) -> BankAnswer {
 }
 
 fn answered(b: Banked, count: usize) -> BankAnswer {
-    let answer = b.answer;
-    let refusal = answer.refusal;
-    let terms = answer.terms;
+    let given = b.answer;
+    let refusal = given.refusal;
+    let terms = given.terms;
     let bank = b.bank;
     let answer = calls_words::answered(refusal, count);
     BankAnswer {
         answer,
-        y: answer.y,
+        y: given.y,
         terms,
         bank,
     }

@@ -1,1 +1,1 @@
-pub mod Edges
+pub mod EdgeTable

@@ -27,7 +27,7 @@ use Rattle.bank.specs.declared.lane.Answer.{Answer}
 use Rattle.bank.specs.declared.Bank.{Bank}
 use Rattle.bank.specs.Lane.{plain}
 use Rattle.bank.specs.Bank.{freshBank, callBank}
-use Rattle.bank.specs.Single.{Single, none, one, newSingle, callSingle, singleRun, singleAfter}
+use Rattle.bank.specs.Single.{Single, none, one, openedSingle, callSingle, singleRun, singleAfter}
 use Rattle.bank.specs.Runs.{bankMachine, run, after}
 use Rattle.bank.specs.RunLaws.{Lies, lies-run, lies-after, fresh-lies}
 use Rattle.rows.specs.Rows.{nextLane, updateCalls, valuesOf}
@@ -201,7 +201,7 @@ unfolding cellAt
 setting-at s L j = let e : (L * 5 + j) * 4 ≡ L * 20 + j * 4 = omega arith in rw (drop-drop (j * 4) (L * 20) s, e)
 
 opened-single : (s : List ℕ) (L : ℕ) → singleAfter none (openOf (drop (L * 20) s) ∷ []) ≡ controllerAt s L
-unfolding left callSingle newSingle openOf controllerAt
+unfolding left callSingle openedSingle openOf controllerAt
 opened-single s L =
     rw (← setting-at s L 0, ← setting-at s L 1, ← setting-at s L 2, ← setting-at s L 3, ← setting-at s L 4)
 
