@@ -2,6 +2,7 @@ pub mod Root
 pub mod Patterns
 pub mod RootLaws
 pub mod Values
+pub mod Neighbours
 pub mod RootTheorem
 pub mod RootTies
 pub mod RootRule
