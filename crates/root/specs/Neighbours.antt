@@ -16,7 +16,7 @@ use lib.Ieee.Fits.{down-pos}
 use lib.Ieee.Order.{transfer}
 use Rattle.float.specs.FloatLaws.{zero-fits}
 use Rattle.root.specs.Root.{scaled}
-use Rattle.root.specs.Patterns.{scaled-strict, scaled-mono}
+use Rattle.root.specs.Patterns.{scaled-strict, smaller}
 use Rattle.root.specs.Values.{pattern-value, finite-bits}
 
 -- Two binary32, the one below the other, and no binary32 z between them, whatever z is: NaN, an infinity or a number of either sign.
@@ -102,15 +102,11 @@ above-plain m e (fin false q f) n d h k = tt
 pub between-plain : (x z y : Float) → T (plain x) → T (plain y) → lt x z ≡ true → lt z y ≡ true → T (plain z)
 between-plain (fin false m e) z (fin false n d) p q h k = above-plain m e z n d h k
 
-value-plain : (x : Float) (a c : ℕ) → HasValue x false a c → T (plain x)
+pub value-plain : (x : Float) (a c : ℕ) → HasValue x false a c → T (plain x)
 value-plain (fin true m e) a c p = true≢false (p .0)
 value-plain (fin false m e) a c p = tt
 
 -- ---- the patterns b and b + 1
-
--- a smaller number has a smaller pattern
-pub smaller : (a b : ℕ) → scaled a < scaled b → a < b
-smaller a b h = elim (decLt a b) [ yes l ↦ l | no f ↦ absurd (lt-irrefl (scaled a) (lt-of-lt-of-le h (scaled-mono b a (omega arith)))) ]
 
 pub patterns-lt : (a b : ℕ) → a < b → b < 255 * 2 ^ 23 → lt (ofBits binary32 a) (ofBits binary32 b) ≡ true
 patterns-lt a b h l = values-lt (2 ^ 149) (pow-pos 149) (ofBits binary32 a) (ofBits binary32 b) (scaled a) (scaled b) (pattern-value a (omega arith)) (pattern-value b l) (scaled-strict a b h)
@@ -131,3 +127,18 @@ neighbours a b h n l =
           let d : Z .bits < b = smaller (Z .bits) b (lt-values (2 ^ 149) (pow-pos 149) z high (scaled (Z .bits)) (scaled b) (Z .value) B v) in
           omega arith;
     }
+
+-- and two neighbours have no other patterns
+pub next-pattern : (low high : Float) → Neighbours low high → (L : HasPattern low) (H : HasPattern high) → H .bits ≡ suc (L .bits)
+next-pattern low high N L H =
+    let a = L .bits in
+    let b = H .bits in
+    let c : a < b = smaller a b (lt-values (2 ^ 149) (pow-pos 149) low high (scaled a) (scaled b) (L .value) (H .value) (N .low-below-high)) in
+    elim (decLt (suc a) b) [
+      | yes l ↦
+          absurd
+          (N .none-between (ofBits binary32 (suc a)) (ofBits-fits binary32 (suc a))
+          (rw (← L .is) (patterns-lt a (suc a) (omega arith) (omega (arith, H .finite))))
+          (rw (← H .is) (patterns-lt (suc a) b l (H .finite))))
+      | no f ↦ omega arith
+    ]

@@ -1,10 +1,11 @@
--- Patterns without a sign and the numbers that they stand for: a larger pattern, a larger number; and the middles between two neighbours. Assumes nothing.
+-- Patterns without a sign and the numbers that they stand for: a larger pattern, a larger number; and twice the middle between two neighbours. Assumes nothing.
 use mathlib.Core.Path.{_≡_, refl, ap, _∙_, subst}
 use mathlib.Core.Logic.{inl, inr}
 use Prim.Native.Nat.{ℕ, zero, suc, _+_, _-_, _*_, _/_, _%_, _^_, _≤_, _<_}
-use native.Mathlib.Nat.{le-refl, le-trans, le-of-eq, le-of-lt, lt-of-lt-of-le, eq-or-lt-of-le, mul-le-mul, mul-le-mul-left, mul-le-mul-right, mul-lt-mul-of-pos-right, add-mul, mul-add, pow-suc, add-comm}
+use native.Mathlib.Nat.{lt-irrefl, le-refl, le-trans, le-of-eq, le-of-lt, lt-of-lt-of-le, eq-or-lt-of-le, mul-le-mul, mul-le-mul-left, mul-le-mul-right, mul-lt-mul-of-pos-right, add-mul, mul-add, pow-suc, add-comm}
 use native.Mathlib.Numerals.{add-one}
 use native.Mathlib.Omega.{arith}
+use native.Mathlib.Decide.{decLt}
 use lib.Pow.{pow-mono, pow-pos, high, low}
 use Rattle.root.specs.Root.{ofParts, scaled, twiceMiddle, fourfold}
 
@@ -67,6 +68,10 @@ scaled-strict a b h =
 pub scaled-mono : (a b : ℕ) → a ≤ b → scaled a ≤ scaled b
 scaled-mono a b h = elim (eq-or-lt-of-le h) [ inl e ↦ le-of-eq (ap scaled e) | inr l ↦ le-of-lt (scaled-strict a b l) ]
 
+-- a smaller number has a smaller pattern
+pub smaller : (a b : ℕ) → scaled a < scaled b → a < b
+smaller a b h = elim (decLt a b) [ yes l ↦ l | no f ↦ absurd (lt-irrefl (scaled a) (lt-of-lt-of-le h (scaled-mono b a (omega arith)))) ]
+
 -- the least number above zero, fourfold
 pub fourfold-least : (b : ℕ) → 0 < b → 4 * 1 * 2 ^ 149 ≤ fourfold b
 fourfold-least b B = let s : 1 ≤ scaled b = rw one-is at (scaled-mono 1 b B) in rw fourfold-is (mul-le-mul-right (2 ^ 149) (mul-le-mul-left 4 s))
@@ -78,7 +83,7 @@ twice-middle-mono a b h = omega (arith, scaled-mono a b h, scaled-mono (a - 1) (
 pub square-mono : (a b : ℕ) → a ≤ b → twiceMiddle a * twiceMiddle a ≤ twiceMiddle b * twiceMiddle b
 square-mono a b h = mul-le-mul (twice-middle-mono a b h) (twice-middle-mono a b h)
 
--- ---- the number and the middle at a field and its digits
+-- ---- the number and twice the middle at a field and its digits
 at-field : (x t : ℕ) → t < 2 ^ 23 → scaled (x * 2 ^ 23 + t) ≡ ofParts x t
 unfolding scaled
 at-field x t h = rw (high x 23 h, low x 23 h)

@@ -4,13 +4,12 @@ use mathlib.Core.Bool.{false}
 use Prim.Native.Nat.{ℕ, zero, suc, _+_, _-_, _*_, _^_, _≤_, _<_}
 use native.Mathlib.Nat.{lt-irrefl, lt-of-lt-of-le, le-trans, le-of-lt}
 use native.Mathlib.Omega.{arith}
-use native.Mathlib.Decide.{decLt}
 use lib.Dec.{lit<}
 use lib.Ieee.{binary32, ofBits}
 use lib.Ieee.Exact.{HasValue}
 use Rattle.root.specs.Root.{ofParts, scaled, twiceMiddle, fourfold, rootBits}
 use Rattle.root.specs.RootLaws.{Nearest, root-nearest, root-finite}
-use Rattle.root.specs.Patterns.{scaled-strict, scaled-mono, twice-middle-is, twice-middle-next, fourfold-is, fourfold-least}
+use Rattle.root.specs.Patterns.{scaled-strict, scaled-mono, smaller, twice-middle-is, twice-middle-next, fourfold-is, fourfold-least}
 use Rattle.root.specs.Values.{pattern-value}
 
 -- Document 01's rule for the number x above zero of the pattern b, its answer y and the patterns beside y, those of y's neighbours p and s:
@@ -27,10 +26,6 @@ pub record IsRoot (b y : ℕ) : Type 0 where
   pub s-next : (z : ℕ) → scaled y < scaled z → scaled (y + 1) ≤ scaled z
   pub not-less : (scaled y + scaled (y - 1)) * (scaled y + scaled (y - 1)) ≤ 4 * scaled b * 2 ^ 149
   pub not-more : 4 * scaled b * 2 ^ 149 ≤ (scaled y + scaled (y + 1)) * (scaled y + scaled (y + 1))
-
--- a smaller number has a smaller pattern
-smaller : (a b : ℕ) → scaled a < scaled b → a < b
-smaller a b h = elim (decLt a b) [ yes l ↦ l | no f ↦ absurd (lt-irrefl (scaled a) (lt-of-lt-of-le h (scaled-mono b a (omega arith)))) ]
 
 first-twice-middle : twiceMiddle 1 ≡ 1
 unfolding twiceMiddle scaled ofParts

@@ -61,14 +61,14 @@ odd-twice-middle y h =
 
 -- ---- x is a number of at most 24 digits, by a power of two
 record Short (n : ℕ) : Type 0 where
-  digits : ℕ
-  by : ℕ
-  few : digits < 2 ^ 24
-  is : n ≡ digits * 2 ^ by
+  significand : ℕ
+  place : ℕ
+  few : significand < 2 ^ 24
+  is : n ≡ significand * 2 ^ place
 
 short-parts : (x t : ℕ) → t < 2 ^ 23 → Short (ofParts x t)
-short-parts zero t h = record { digits = t; by = 0; few = omega arith; is = parts-zero t ∙ sym (mul-one t) }
-short-parts (suc x) t h = record { digits = 2 ^ 23 + t; by = x; few = omega arith; is = parts-at x t }
+short-parts zero t h = record { significand = t; place = 0; few = omega arith; is = parts-zero t ∙ sym (mul-one t) }
+short-parts (suc x) t h = record { significand = 2 ^ 23 + t; place = x; few = omega arith; is = parts-at x t }
 
 short : (b : ℕ) → Short (scaled b)
 short b = rw scaled-is (short-parts (b / 2 ^ 23) (b % 2 ^ 23) (omega arith))
@@ -98,8 +98,8 @@ never-halfway b y B e =
         let a = o .half + o .half + 1 in
         let i = o .place in
         let left : twiceMiddle y * twiceMiddle y ≡ a * a * 2 ^ (i + i) = rw (o .is, pow-add 2 i i) (mul-mul-mul-comm a (2 ^ i) a (2 ^ i)) in
-        let right : fourfold b ≡ s .digits * 2 ^ (s .by + 151) = rw (fourfold-is, s .is) (four-shifted (s .digits) (s .by)) in
-        no-tie (o .half) (i + i) (s .digits) (s .by + 151) (o .large) (s .few) (sym left ∙ e ∙ right)
+        let right : fourfold b ≡ s .significand * 2 ^ (s .place + 151) = rw (fourfold-is, s .is) (four-shifted (s .significand) (s .place)) in
+        no-tie (o .half) (i + i) (s .significand) (s .place + 151) (o .large) (s .few) (sym left ∙ e ∙ right)
 
 -- document 01's rule, with ≤ on both sides, admits one answer
 pub rule-unique : (b y : ℕ) → 0 < b → b < 2 ^ 31 → twiceMiddle y * twiceMiddle y ≤ fourfold b → fourfold b ≤ twiceMiddle (suc y) * twiceMiddle (suc y) → y ≡ rootBits b
