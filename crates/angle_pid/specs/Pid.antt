@@ -26,12 +26,12 @@ use Rattle.angle_pid.specs.LpFilter.{tauRefusal, newLpFilter, storedTau,
 -- ---- what is refused
 
 -- the first of two refusals
-unfoldable pub first : Refusal → Refusal → Refusal
-first a b = cond (passes a) b a
+unfoldable pub firstRefusal : Refusal → Refusal → Refusal
+firstRefusal a b = cond (passes a) b a
 
 -- wrapping, output limit, anti-windup, tau, in that order
 unfoldable pub partsRefusal : Range → Range → Range → Tau → Refusal
-partsRefusal wrapping outputLimit antiWindup tau = first (rangeRefusal wrapping) (first (rangeRefusal outputLimit) (first (rangeRefusal antiWindup) (tauRefusal tau)))
+partsRefusal wrapping outputLimit antiWindup tau = firstRefusal (rangeRefusal wrapping) (firstRefusal (rangeRefusal outputLimit) (firstRefusal (rangeRefusal antiWindup) (tauRefusal tau)))
 
 -- the first refusal of a controller's stored parts, and of a configuration's
 unfoldable pub pidRefusal : Pid → Refusal
@@ -42,28 +42,90 @@ configRefusal c = partsRefusal (c .wrapping) (c .«output_limit») (c .«anti_wi
 
 -- ---- states
 
-abbrev pub pidOf : Float → Float → Float → Float → Float → Bool → Float → Range → Range → Range → LpFilter → Pid
-pidOf kp ki kd ts integral on prev wrapping outputLimit antiWindup filter = record { kp = kp; ki = ki; kd = kd; ts = ts; integral = integral; «integral_en» = on; «prev_error» = prev; wrapping = wrapping; «output_limit» = outputLimit; «anti_windup» = antiWindup; «lp_filter» = filter }
-
 -- all zero, with the switches off
 unfoldable pub zeroPid : Pid
-zeroPid = pidOf F.zero F.zero F.zero F.zero F.zero false F.zero Range.Off Range.Off Range.Off LpFilter.Off
+zeroPid =
+    record {
+      kp = F.zero;
+      ki = F.zero;
+      kd = F.zero;
+      ts = F.zero;
+      integral = F.zero;
+      «integral_en» = false;
+      «prev_error» = F.zero;
+      wrapping = Range.Off;
+      «output_limit» = Range.Off;
+      «anti_windup» = Range.Off;
+      «lp_filter» = LpFilter.Off;
+    }
 
 -- in the ideal form a gain is multiplied by kp
 unfoldable pub idealGain : Bool → Float → Float → Float
 idealGain ideal k kp = cond ideal (k *f kp) k
 
 unfoldable pub newPid : Float → Float → Float → Bool → Float → Pid
-newPid kp ki kd ideal ts = pidOf kp (idealGain ideal ki kp) (idealGain ideal kd kp) ts F.zero true F.zero Range.Off Range.Off Range.Off LpFilter.Off
+newPid kp ki kd ideal ts =
+    record {
+      kp = kp;
+      ki = idealGain ideal ki kp;
+      kd = idealGain ideal kd kp;
+      ts = ts;
+      integral = F.zero;
+      «integral_en» = true;
+      «prev_error» = F.zero;
+      wrapping = Range.Off;
+      «output_limit» = Range.Off;
+      «anti_windup» = Range.Off;
+      «lp_filter» = LpFilter.Off;
+    }
 
 unfoldable pub withGains : Pid → Float → Float → Float → Pid
-withGains s kp ki kd = pidOf kp ki kd (s .ts) (s .integral) (s .«integral_en») (s .«prev_error») (s .wrapping) (s .«output_limit») (s .«anti_windup») (s .«lp_filter»)
+withGains s kp ki kd =
+    record {
+      kp = kp;
+      ki = ki;
+      kd = kd;
+      ts = s .ts;
+      integral = s .integral;
+      «integral_en» = s .«integral_en»;
+      «prev_error» = s .«prev_error»;
+      wrapping = s .wrapping;
+      «output_limit» = s .«output_limit»;
+      «anti_windup» = s .«anti_windup»;
+      «lp_filter» = s .«lp_filter»;
+    }
 
 unfoldable pub withIntegral : Pid → Bool → Float → Pid
-withIntegral s on integral = pidOf (s .kp) (s .ki) (s .kd) (s .ts) integral on (s .«prev_error») (s .wrapping) (s .«output_limit») (s .«anti_windup») (s .«lp_filter»)
+withIntegral s on integral =
+    record {
+      kp = s .kp;
+      ki = s .ki;
+      kd = s .kd;
+      ts = s .ts;
+      integral = integral;
+      «integral_en» = on;
+      «prev_error» = s .«prev_error»;
+      wrapping = s .wrapping;
+      «output_limit» = s .«output_limit»;
+      «anti_windup» = s .«anti_windup»;
+      «lp_filter» = s .«lp_filter»;
+    }
 
 unfoldable pub withParts : Pid → Range → Range → Range → LpFilter → Pid
-withParts s = pidOf (s .kp) (s .ki) (s .kd) (s .ts) (s .integral) (s .«integral_en») (s .«prev_error»)
+withParts s wrapping outputLimit antiWindup filter =
+    record {
+      kp = s .kp;
+      ki = s .ki;
+      kd = s .kd;
+      ts = s .ts;
+      integral = s .integral;
+      «integral_en» = s .«integral_en»;
+      «prev_error» = s .«prev_error»;
+      wrapping = wrapping;
+      «output_limit» = outputLimit;
+      «anti_windup» = antiWindup;
+      «lp_filter» = filter;
+    }
 
 unfoldable pub withConfigPid : PidConfig → Float → Pid
 withConfigPid c ts = withParts (newPid (c .kp) (c .ki) (c .kd) (c .ideal) ts) (c .wrapping) (c .«output_limit») (c .«anti_windup») (newLpFilter (c .«lp_filter») ts)
@@ -98,57 +160,70 @@ unfoldable pub stepPid : Pid → Float → Float → PidStepped
 stepPid s error ts =
     record {
       y = limited (s .«output_limit») (proportional s error +f nextIntegral s error ts +f derivative s error ts .y);
-      pid = pidOf (s .kp) (s .ki) (s .kd) (s .ts) (nextIntegral s error ts) (s .«integral_en») error (s .wrapping) (s .«output_limit») (s .«anti_windup») (derivative s error ts .filter);
+      pid =
+          record {
+            kp = s .kp;
+            ki = s .ki;
+            kd = s .kd;
+            ts = s .ts;
+            integral = nextIntegral s error ts;
+            «integral_en» = s .«integral_en»;
+            «prev_error» = error;
+            wrapping = s .wrapping;
+            «output_limit» = s .«output_limit»;
+            «anti_windup» = s .«anti_windup»;
+            «lp_filter» = derivative s error ts .filter;
+          };
     }
 
 -- ---- the calls: refused, a constructor gives the all-zero state, and any other leaves the state
 
-abbrev pub made : Refusal → Pid → PidChanged
-made why s = record { refusal = why; pid = s }
+abbrev pub changedPid : Refusal → Pid → PidChanged
+changedPid why s = record { refusal = why; pid = s }
 
-abbrev pub updated : Refusal → Float → ℕ → Pid → PidUpdated
-updated why y steps s = record { refusal = why; y = y; steps = steps; pid = s }
+abbrev pub updatedPid : Refusal → Float → ℕ → Pid → PidUpdated
+updatedPid why y steps s = record { refusal = why; y = y; steps = steps; pid = s }
 
-unfoldable pub kept : Refusal → Pid → Pid → PidChanged
-kept why s next = cond (passes why) (made Refusal.None next) (made why s)
+unfoldable pub unlessRefused : Refusal → Pid → Pid → PidChanged
+unlessRefused why s next = cond (passes why) (changedPid Refusal.None next) (changedPid why s)
 
 unfoldable pub callWithConfigPid : PidConfig → Float → PidChanged
-callWithConfigPid c ts = kept (configRefusal c) zeroPid (withConfigPid c ts)
+callWithConfigPid c ts = unlessRefused (configRefusal c) zeroPid (withConfigPid c ts)
 
 unfoldable pub callSetWrappingPid : Pid → Float → Float → PidChanged
-callSetWrappingPid s min max = kept (first (pidRefusal s) (rangeRefusal (Range.On min max))) s (withParts s (Range.On min max) (s .«output_limit») (s .«anti_windup») (s .«lp_filter»))
+callSetWrappingPid s min max = unlessRefused (firstRefusal (pidRefusal s) (rangeRefusal (Range.On min max))) s (withParts s (Range.On min max) (s .«output_limit») (s .«anti_windup») (s .«lp_filter»))
 
 unfoldable pub callSetOutputLimitPid : Pid → Float → Float → PidChanged
-callSetOutputLimitPid s min max = kept (first (pidRefusal s) (rangeRefusal (Range.On min max))) s (withParts s (s .wrapping) (Range.On min max) (s .«anti_windup») (s .«lp_filter»))
+callSetOutputLimitPid s min max = unlessRefused (firstRefusal (pidRefusal s) (rangeRefusal (Range.On min max))) s (withParts s (s .wrapping) (Range.On min max) (s .«anti_windup») (s .«lp_filter»))
 
 unfoldable pub callSetAntiWindupPid : Pid → Float → Float → PidChanged
-callSetAntiWindupPid s min max = kept (first (pidRefusal s) (rangeRefusal (Range.On min max))) s (withParts s (s .wrapping) (s .«output_limit») (Range.On min max) (s .«lp_filter»))
+callSetAntiWindupPid s min max = unlessRefused (firstRefusal (pidRefusal s) (rangeRefusal (Range.On min max))) s (withParts s (s .wrapping) (s .«output_limit») (Range.On min max) (s .«lp_filter»))
 
 unfoldable pub callSetLpFilterPid : Pid → Float → PidChanged
-callSetLpFilterPid s tau = kept (first (pidRefusal s) (tauRefusal (Tau.On tau))) s (withParts s (s .wrapping) (s .«output_limit») (s .«anti_windup») (newLpFilter (Tau.On tau) (s .ts)))
+callSetLpFilterPid s tau = unlessRefused (firstRefusal (pidRefusal s) (tauRefusal (Tau.On tau))) s (withParts s (s .wrapping) (s .«output_limit») (s .«anti_windup») (newLpFilter (Tau.On tau) (s .ts)))
 
 -- `set_gains` ignores `ideal`.
 unfoldable pub callSetGainsPid : Pid → Float → Float → Float → PidChanged
-callSetGainsPid s kp ki kd = kept (pidRefusal s) s (withGains s kp ki kd)
+callSetGainsPid s kp ki kd = unlessRefused (pidRefusal s) s (withGains s kp ki kd)
 
 unfoldable pub callResetIntegralToPid : Pid → Float → PidChanged
-callResetIntegralToPid s integral = kept (pidRefusal s) s (withIntegral s (s .«integral_en») integral)
+callResetIntegralToPid s integral = unlessRefused (pidRefusal s) s (withIntegral s (s .«integral_en») integral)
 
 unfoldable pub callResetIntegralPid : Pid → PidChanged
 callResetIntegralPid s = callResetIntegralToPid s F.zero
 
 unfoldable pub callEnableIntegralPid : Pid → Bool → PidChanged
-callEnableIntegralPid s on = kept (pidRefusal s) s (withIntegral s on (s .integral))
+callEnableIntegralPid s on = unlessRefused (pidRefusal s) s (withIntegral s on (s .integral))
 
 unfoldable pub callEnableResetIntegralPid : Pid → Bool → PidChanged
-callEnableResetIntegralPid s on = kept (pidRefusal s) s (withIntegral s on F.zero)
+callEnableResetIntegralPid s on = unlessRefused (pidRefusal s) s (withIntegral s on F.zero)
 
 -- the step after the wrapping, with the wrapping's count; refused, it answers with that count too
 unfoldable pub afterWrap : Pid → Wrapped → Float → PidUpdated
-afterWrap s w ts = cond (passes (w .refusal)) (updated Refusal.None (stepPid s (w .value) ts .y) (w .steps) (stepPid s (w .value) ts .pid)) (updated (w .refusal) F.zero (w .steps) s)
+afterWrap s w ts = cond (passes (w .refusal)) (updatedPid Refusal.None (stepPid s (w .value) ts .y) (w .steps) (stepPid s (w .value) ts .pid)) (updatedPid (w .refusal) F.zero (w .steps) s)
 
 unfoldable pub callUpdateTsPid : Pid → Float → Float → PidUpdated
-callUpdateTsPid s error ts = cond (passes (pidRefusal s)) (afterWrap s (wrapError (s .wrapping) error) ts) (updated (pidRefusal s) F.zero 0 s)
+callUpdateTsPid s error ts = cond (passes (pidRefusal s)) (afterWrap s (wrapError (s .wrapping) error) ts) (updatedPid (pidRefusal s) F.zero 0 s)
 
 unfoldable pub callUpdatePid : Pid → Float → PidUpdated
 callUpdatePid s error = callUpdateTsPid s error (s .ts)

@@ -23,44 +23,44 @@ use Rattle.angle_pid.specs.declared.pid.PidConfig.{PidConfig}
 use Rattle.angle_pid.specs.declared.pid.PidChanged.{PidChanged}
 use Rattle.angle_pid.specs.Range.{rangeRefusal, wrapError, admits, limited}
 use Rattle.angle_pid.specs.LpFilter.{newLpFilter, storedTau, stepLpFilter}
-use Rattle.angle_pid.specs.Pid.{first, partsRefusal, pidRefusal, configRefusal, zeroPid, withParts, withConfigPid, movedIntegral, proportional, derivative, grown, nextIntegral, stepPid, kept, callWithConfigPid, callSetWrappingPid, callSetOutputLimitPid, callSetAntiWindupPid, callSetLpFilterPid, callSetGainsPid, callResetIntegralPid, callResetIntegralToPid, callEnableIntegralPid, callEnableResetIntegralPid, updated, afterWrap, callUpdateTsPid}
+use Rattle.angle_pid.specs.Pid.{firstRefusal, partsRefusal, pidRefusal, configRefusal, zeroPid, withParts, withConfigPid, movedIntegral, proportional, derivative, grown, nextIntegral, stepPid, unlessRefused, callWithConfigPid, callSetWrappingPid, callSetOutputLimitPid, callSetAntiWindupPid, callSetLpFilterPid, callSetGainsPid, callResetIntegralPid, callResetIntegralToPid, callEnableIntegralPid, callEnableResetIntegralPid, updatedPid, afterWrap, callUpdateTsPid}
 
 -- ---- a refused call leaves the state, and a refused constructor gives the all-zero one
 
-abbrev pub Leaves : Pid → PidChanged → Type 0
-Leaves s r = (r .refusal ≡ Refusal.None → ⊥) → r .pid ≡ s
+abbrev pub LeavesPid : Pid → PidChanged → Type 0
+LeavesPid s r = (r .refusal ≡ Refusal.None → ⊥) → r .pid ≡ s
 
-kept-leaves : (why : Refusal) (s next : Pid) → Leaves s (kept why s next)
-unfolding kept
-kept-leaves why s next = go (passes why) refl
+unless-refused-leaves : (why : Refusal) (s next : Pid) → LeavesPid s (unlessRefused why s next)
+unfolding unlessRefused
+unless-refused-leaves why s next = go (passes why) refl
   where
-    go : (b : Bool) → passes why ≡ b → Leaves s (kept why s next)
+    go : (b : Bool) → passes why ≡ b → LeavesPid s (unlessRefused why s next)
     go true e h = absurd (h (simp e))
     go false e h = simp e
 
-pub config-leaves : (c : PidConfig) (ts : Float) → Leaves zeroPid (callWithConfigPid c ts)
+pub config-leaves : (c : PidConfig) (ts : Float) → LeavesPid zeroPid (callWithConfigPid c ts)
 unfolding callWithConfigPid
-config-leaves c ts = kept-leaves _ _ _
+config-leaves c ts = unless-refused-leaves _ _ _
 
 pub setters-leave : (s : Pid) (a b c : Float) (on : Bool)
-    → Leaves s (callSetWrappingPid s a b) × Leaves s (callSetOutputLimitPid s a b) × Leaves s (callSetAntiWindupPid s a b) × Leaves s (callSetLpFilterPid s a)
-    × Leaves s (callSetGainsPid s a b c) × Leaves s (callResetIntegralPid s) × Leaves s (callResetIntegralToPid s a) × Leaves s (callEnableIntegralPid s on) × Leaves s (callEnableResetIntegralPid s on)
+    → LeavesPid s (callSetWrappingPid s a b) × LeavesPid s (callSetOutputLimitPid s a b) × LeavesPid s (callSetAntiWindupPid s a b) × LeavesPid s (callSetLpFilterPid s a)
+    × LeavesPid s (callSetGainsPid s a b c) × LeavesPid s (callResetIntegralPid s) × LeavesPid s (callResetIntegralToPid s a) × LeavesPid s (callEnableIntegralPid s on) × LeavesPid s (callEnableResetIntegralPid s on)
 unfolding callSetWrappingPid callSetOutputLimitPid callSetAntiWindupPid callSetLpFilterPid callSetGainsPid callResetIntegralPid callResetIntegralToPid callEnableIntegralPid callEnableResetIntegralPid
 setters-leave s a b c on =
-    (kept-leaves _ _ _, kept-leaves _ _ _, kept-leaves _ _ _, kept-leaves _ _ _, kept-leaves _ _ _, kept-leaves _ _ _, kept-leaves _ _ _, kept-leaves _ _ _, kept-leaves _ _ _)
+    (unless-refused-leaves _ _ _, unless-refused-leaves _ _ _, unless-refused-leaves _ _ _, unless-refused-leaves _ _ _, unless-refused-leaves _ _ _, unless-refused-leaves _ _ _, unless-refused-leaves _ _ _, unless-refused-leaves _ _ _, unless-refused-leaves _ _ _)
 
 -- ---- an update, case by case
 module _ (s : Pid) (w : Wrapped) (ts : Float) where
-  pub after-refused : passes (w .refusal) ≡ false → afterWrap s w ts ≡ updated (w .refusal) F.zero (w .steps) s
+  pub after-refused : passes (w .refusal) ≡ false → afterWrap s w ts ≡ updatedPid (w .refusal) F.zero (w .steps) s
   unfolding afterWrap
   after-refused h = simp h
 
-  pub after-settled : passes (w .refusal) ≡ true → afterWrap s w ts ≡ updated Refusal.None (stepPid s (w .value) ts .y) (w .steps) (stepPid s (w .value) ts .pid)
+  pub after-settled : passes (w .refusal) ≡ true → afterWrap s w ts ≡ updatedPid Refusal.None (stepPid s (w .value) ts .y) (w .steps) (stepPid s (w .value) ts .pid)
   unfolding afterWrap
   after-settled h = simp h
 
 module _ (s : Pid) (error ts : Float) where
-  pub update-bad : passes (pidRefusal s) ≡ false → callUpdateTsPid s error ts ≡ updated (pidRefusal s) F.zero 0 s
+  pub update-bad : passes (pidRefusal s) ≡ false → callUpdateTsPid s error ts ≡ updatedPid (pidRefusal s) F.zero 0 s
   unfolding callUpdateTsPid
   update-bad h = simp h
 
@@ -81,7 +81,7 @@ module _ (s : Pid) (error ts : Float) where
 
 -- where no part is refused, a wrapping range that is on has min < max
 range-good : (s : Pid) (min max : Float) → pidRefusal s ≡ Refusal.None → s .wrapping ≡ Range.On min max → lt min max ≡ true
-unfolding pidRefusal partsRefusal first passes rangeRefusal
+unfolding pidRefusal partsRefusal firstRefusal passes rangeRefusal
 range-good s min max good on = go (lt min max) refl
   where
     go : (b : Bool) → lt min max ≡ b → b ≡ true
@@ -89,17 +89,17 @@ range-good s min max good on = go (lt min max) refl
     go false e = let bad : pidRefusal s ≡ Refusal.Range = simp (on, e) in cc
 
 module _ (s : Pid) (error ts : Float) (good : pidRefusal s ≡ Refusal.None) where
-  pub update-unwrapped : s .wrapping ≡ Range.Off → callUpdateTsPid s error ts ≡ updated Refusal.None (stepPid s error ts .y) 0 (stepPid s error ts .pid)
+  pub update-unwrapped : s .wrapping ≡ Range.Off → callUpdateTsPid s error ts ≡ updatedPid Refusal.None (stepPid s error ts .y) 0 (stepPid s error ts .pid)
   unfolding callUpdateTsPid afterWrap wrapError passes
   update-unwrapped off = simp (good, off)
 
   module _ (min max : Float) (on : s .wrapping ≡ Range.On min max) where
     pub update-within : (y : Float) (k : ℕ) → RisesBy (lt max) min (max -f min) error k y → k ≤ 64
-        → callUpdateTsPid s error ts ≡ updated Refusal.None (stepPid s y ts .y) k (stepPid s y ts .pid)
+        → callUpdateTsPid s error ts ≡ updatedPid Refusal.None (stepPid s y ts .y) k (stepPid s y ts .pid)
     unfolding callUpdateTsPid afterWrap wrapError passes
     update-within y k r h = simp (good, on, wrap-by-within lt error min max (range-good s min max good on) y k r h)
 
-    pub update-beyond : ((k : ℕ) (y : Float) → RisesBy (lt max) min (max -f min) error k y → 64 < k) → callUpdateTsPid s error ts ≡ updated Refusal.Steps F.zero 64 s
+    pub update-beyond : ((k : ℕ) (y : Float) → RisesBy (lt max) min (max -f min) error k y → 64 < k) → callUpdateTsPid s error ts ≡ updatedPid Refusal.Steps F.zero 64 s
     unfolding callUpdateTsPid afterWrap wrapError passes
     update-beyond f = simp (good, on, wrap-by-beyond lt error min max (range-good s min max good on) f)
 

@@ -1,6 +1,6 @@
 // The controller. Every call on it, when it was built by hand too, checks its ranges and its low pass's tau first.
 ghost use mathlib.Core.Path.{_≡_};
-ghost use Rattle.angle_pid.specs.Pid.{first, partsRefusal, pidRefusal, idealGain, withParts, zeroPid, grown, stepPid, kept, newPid, callWithConfigPid, callSetWrappingPid, callSetOutputLimitPid, callSetAntiWindupPid, callSetLpFilterPid, callSetGainsPid, callResetIntegralPid, callResetIntegralToPid, callEnableIntegralPid, callEnableResetIntegralPid, callUpdateTsPid, callUpdatePid};
+ghost use Rattle.angle_pid.specs.Pid.{firstRefusal, partsRefusal, pidRefusal, idealGain, withParts, zeroPid, grown, stepPid, unlessRefused, newPid, callWithConfigPid, callSetWrappingPid, callSetOutputLimitPid, callSetAntiWindupPid, callSetLpFilterPid, callSetGainsPid, callResetIntegralPid, callResetIntegralToPid, callEnableIntegralPid, callEnableResetIntegralPid, callUpdateTsPid, callUpdatePid};
 use crate::lp_filter::LpFilter;
 use crate::lp_filter::Tau;
 use crate::range::Range;
@@ -52,8 +52,8 @@ struct PidStepped {
 }
 
 // The first of two refusals.
-fn first(a: Refusal, b: Refusal) -> Refusal
-    ensures { λ r. ⌜ r ≡ first a b ⌝ }
+fn first_refusal(a: Refusal, b: Refusal) -> Refusal
+    ensures { λ r. ⌜ r ≡ firstRefusal a b ⌝ }
 {
     if a.passes() { b } else { a }
 }
@@ -61,8 +61,8 @@ fn first(a: Refusal, b: Refusal) -> Refusal
 fn parts_refusal(wrapping: Range, output_limit: Range, anti_windup: Range, tau: Tau) -> Refusal
     ensures { λ r. ⌜ r ≡ partsRefusal wrapping «output_limit» «anti_windup» tau ⌝ }
 {
-    let last = first(anti_windup.refusal(), tau.refusal());
-    first(wrapping.refusal(), first(output_limit.refusal(), last))
+    let last = first_refusal(anti_windup.refusal(), tau.refusal());
+    first_refusal(wrapping.refusal(), first_refusal(output_limit.refusal(), last))
 }
 
 // In the ideal form the gains of the integral and the derivative are multiples of kp.
@@ -170,7 +170,7 @@ impl Pid {
 
     // The state after a call that would make it `next`: refused, it stays.
     fn keep(self, why: Refusal, next: Pid) -> PidChanged
-        ensures { λ r. ⌜ r ≡ kept why self next ⌝ }
+        ensures { λ r. ⌜ r ≡ unlessRefused why self next ⌝ }
     {
         if why.passes() {
             let refusal = Refusal::None;
@@ -190,7 +190,7 @@ impl Pid {
         let anti_windup = self.anti_windup;
         let lp_filter = self.lp_filter;
         let next = self.with_parts(range, output_limit, anti_windup, lp_filter);
-        self.keep(first(self.refusal(), range.refusal()), next)
+        self.keep(first_refusal(self.refusal(), range.refusal()), next)
     }
 
     pub fn set_output_limit(self, min: f32, max: f32) -> PidChanged
@@ -201,7 +201,7 @@ impl Pid {
         let anti_windup = self.anti_windup;
         let lp_filter = self.lp_filter;
         let next = self.with_parts(wrapping, range, anti_windup, lp_filter);
-        self.keep(first(self.refusal(), range.refusal()), next)
+        self.keep(first_refusal(self.refusal(), range.refusal()), next)
     }
 
     pub fn set_anti_windup(self, min: f32, max: f32) -> PidChanged
@@ -212,7 +212,7 @@ impl Pid {
         let output_limit = self.output_limit;
         let lp_filter = self.lp_filter;
         let next = self.with_parts(wrapping, output_limit, range, lp_filter);
-        self.keep(first(self.refusal(), range.refusal()), next)
+        self.keep(first_refusal(self.refusal(), range.refusal()), next)
     }
 
     pub fn set_lp_filter(self, tau: f32) -> PidChanged
@@ -223,7 +223,7 @@ impl Pid {
         let output_limit = self.output_limit;
         let anti_windup = self.anti_windup;
         let next = self.with_parts(wrapping, output_limit, anti_windup, asked.filter(self.ts));
-        self.keep(first(self.refusal(), asked.refusal()), next)
+        self.keep(first_refusal(self.refusal(), asked.refusal()), next)
     }
 
     // The gains as they are given: the controller does not remember whether it was made in the ideal form.

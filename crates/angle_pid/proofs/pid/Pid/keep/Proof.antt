@@ -1,7 +1,7 @@
 use Rattle.lemmas.specs.Cases.{when-true, when-false}
 use mathlib.Core.Path.{sym, _∙_}
 use borrow.Author.Needs.{needs}
-use Rattle.angle_pid.specs.Pid.{kept}
+use Rattle.angle_pid.specs.Pid.{unlessRefused}
 use Rattle.angle_pid.proofs.pid.Pid.keep.Statement.{statement}
 use Rattle.angle_pid.proofs.pid.Pid.keep.Tie as tie
 
@@ -9,11 +9,11 @@ passes-requires : tie.Need-passes-requires
 passes-requires c κs = search needs
 
 returns : tie.Need-returns
-unfolding kept
+unfolding unlessRefused
 returns c = when-true _ _ _ (sym (c .before .passes .ensures) ∙ c .if1 .taken)
 
 returns-2 : tie.Need-returns-2
-unfolding kept
+unfolding unlessRefused
 returns-2 c = when-false _ _ _ (sym (c .before .passes .ensures) ∙ c .if1 .left)
 
 pub keep-spec : {M : Type 1} → statement M

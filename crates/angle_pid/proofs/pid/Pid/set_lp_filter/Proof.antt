@@ -15,8 +15,8 @@ refusal-requires c κs = search needs
 refusal-requires-2 : tie.Need-refusal-requires-2
 refusal-requires-2 c κs = search needs
 
-first-requires : tie.Need-first-requires
-first-requires c κs = search needs
+first-refusal-requires : tie.Need-first-refusal-requires
+first-refusal-requires c κs = search needs
 
 keep-requires : tie.Need-keep-requires
 keep-requires c κs = search needs
@@ -26,7 +26,7 @@ unfolding callSetLpFilterPid
 returns c =
     let d = c .before .before in
     let e = d .before .before in
-    simp (c .keep .ensures, c .before .first .ensures, d .refusal2 .ensures, d .before .refusal .ensures, e .with-parts .ensures, e .before .filter .ensures)
+    simp (c .keep .ensures, c .before .first-refusal .ensures, d .refusal2 .ensures, d .before .refusal .ensures, e .with-parts .ensures, e .before .filter .ensures)
 
 pub set-lp-filter-spec : {M : Type 1} → statement M
 set-lp-filter-spec =
@@ -36,6 +36,6 @@ set-lp-filter-spec =
     with-parts-requires
     refusal-requires
     refusal-requires-2
-    first-requires
+    first-refusal-requires
     keep-requires
     returns)

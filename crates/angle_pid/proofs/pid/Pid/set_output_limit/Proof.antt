@@ -12,8 +12,8 @@ refusal-requires c κs = search needs
 refusal-requires-2 : tie.Need-refusal-requires-2
 refusal-requires-2 c κs = search needs
 
-first-requires : tie.Need-first-requires
-first-requires c κs = search needs
+first-refusal-requires : tie.Need-first-refusal-requires
+first-refusal-requires c κs = search needs
 
 keep-requires : tie.Need-keep-requires
 keep-requires c κs = search needs
@@ -22,7 +22,7 @@ returns : tie.Need-returns
 unfolding callSetOutputLimitPid
 returns c =
     let d = c .before .before in
-    simp (c .keep .ensures, c .before .first .ensures, d .refusal2 .ensures, d .before .refusal .ensures, d .before .before .with-parts .ensures)
+    simp (c .keep .ensures, c .before .first-refusal .ensures, d .refusal2 .ensures, d .before .refusal .ensures, d .before .before .with-parts .ensures)
 
 pub set-output-limit-spec : {M : Type 1} → statement M
 set-output-limit-spec =
@@ -31,6 +31,6 @@ set-output-limit-spec =
     with-parts-requires
     refusal-requires
     refusal-requires-2
-    first-requires
+    first-refusal-requires
     keep-requires
     returns)

@@ -1,20 +1,20 @@
 use Rattle.lemmas.specs.Cases.{when-true, when-false}
 use mathlib.Core.Path.{sym, _∙_}
 use borrow.Author.Needs.{needs}
-use Rattle.angle_pid.specs.Pid.{first}
-use Rattle.angle_pid.proofs.pid.first.Statement.{statement}
-use Rattle.angle_pid.proofs.pid.first.Tie as tie
+use Rattle.angle_pid.specs.Pid.{firstRefusal}
+use Rattle.angle_pid.proofs.pid.first_refusal.Statement.{statement}
+use Rattle.angle_pid.proofs.pid.first_refusal.Tie as tie
 
 passes-requires : tie.Need-passes-requires
 passes-requires c κs = search needs
 
 returns : tie.Need-returns
-unfolding first
+unfolding firstRefusal
 returns c = when-true _ _ _ (sym (c .before .passes .ensures) ∙ c .if1 .taken)
 
 returns-2 : tie.Need-returns-2
-unfolding first
+unfolding firstRefusal
 returns-2 c = when-false _ _ _ (sym (c .before .passes .ensures) ∙ c .if1 .left)
 
-pub first-spec : {M : Type 1} → statement M
-first-spec = tie.close (tie.spec passes-requires returns returns-2)
+pub first-refusal-spec : {M : Type 1} → statement M
+first-refusal-spec = tie.close (tie.spec passes-requires returns returns-2)
