@@ -184,6 +184,7 @@ changedPid why s = record { refusal = why; pid = s }
 abbrev pub updatedPid : Refusal → Float → ℕ → Pid → PidUpdated
 updatedPid why y steps s = record { refusal = why; y = y; steps = steps; pid = s }
 
+-- next, unless it is refused, and then s as it was
 unfoldable pub unlessRefused : Refusal → Pid → Pid → PidChanged
 unlessRefused why s next = cond (passes why) (changedPid Refusal.None next) (changedPid why s)
 
@@ -191,16 +192,24 @@ unfoldable pub callWithConfigPid : PidConfig → Float → PidChanged
 callWithConfigPid c ts = unlessRefused (configRefusal c) zeroPid (withConfigPid c ts)
 
 unfoldable pub callSetWrappingPid : Pid → Float → Float → PidChanged
-callSetWrappingPid s min max = unlessRefused (firstRefusal (pidRefusal s) (rangeRefusal (Range.On min max))) s (withParts s (Range.On min max) (s .«output_limit») (s .«anti_windup») (s .«lp_filter»))
+callSetWrappingPid s min max =
+    unlessRefused (firstRefusal (pidRefusal s) (rangeRefusal (Range.On min max))) s
+    (withParts s (Range.On min max) (s .«output_limit») (s .«anti_windup») (s .«lp_filter»))
 
 unfoldable pub callSetOutputLimitPid : Pid → Float → Float → PidChanged
-callSetOutputLimitPid s min max = unlessRefused (firstRefusal (pidRefusal s) (rangeRefusal (Range.On min max))) s (withParts s (s .wrapping) (Range.On min max) (s .«anti_windup») (s .«lp_filter»))
+callSetOutputLimitPid s min max =
+    unlessRefused (firstRefusal (pidRefusal s) (rangeRefusal (Range.On min max))) s
+    (withParts s (s .wrapping) (Range.On min max) (s .«anti_windup») (s .«lp_filter»))
 
 unfoldable pub callSetAntiWindupPid : Pid → Float → Float → PidChanged
-callSetAntiWindupPid s min max = unlessRefused (firstRefusal (pidRefusal s) (rangeRefusal (Range.On min max))) s (withParts s (s .wrapping) (s .«output_limit») (Range.On min max) (s .«lp_filter»))
+callSetAntiWindupPid s min max =
+    unlessRefused (firstRefusal (pidRefusal s) (rangeRefusal (Range.On min max))) s
+    (withParts s (s .wrapping) (s .«output_limit») (Range.On min max) (s .«lp_filter»))
 
 unfoldable pub callSetLpFilterPid : Pid → Float → PidChanged
-callSetLpFilterPid s tau = unlessRefused (firstRefusal (pidRefusal s) (tauRefusal (Tau.On tau))) s (withParts s (s .wrapping) (s .«output_limit») (s .«anti_windup») (newLpFilter (Tau.On tau) (s .ts)))
+callSetLpFilterPid s tau =
+    unlessRefused (firstRefusal (pidRefusal s) (tauRefusal (Tau.On tau))) s
+    (withParts s (s .wrapping) (s .«output_limit») (s .«anti_windup») (newLpFilter (Tau.On tau) (s .ts)))
 
 -- `set_gains` ignores `ideal`.
 unfoldable pub callSetGainsPid : Pid → Float → Float → Float → PidChanged
@@ -220,10 +229,15 @@ callEnableResetIntegralPid s on = unlessRefused (pidRefusal s) s (withIntegral s
 
 -- the step after the wrapping, with the wrapping's count; refused, it answers with that count too
 unfoldable pub afterWrap : Pid → Wrapped → Float → PidUpdated
-afterWrap s w ts = cond (passes (w .refusal)) (updatedPid Refusal.None (stepPid s (w .value) ts .y) (w .steps) (stepPid s (w .value) ts .pid)) (updatedPid (w .refusal) F.zero (w .steps) s)
+afterWrap s w ts =
+    cond (passes (w .refusal))
+    (updatedPid Refusal.None (stepPid s (w .value) ts .y) (w .steps) (stepPid s (w .value) ts .pid))
+    (updatedPid (w .refusal) F.zero (w .steps) s)
 
 unfoldable pub callUpdateTsPid : Pid → Float → Float → PidUpdated
-callUpdateTsPid s error ts = cond (passes (pidRefusal s)) (afterWrap s (wrapError (s .wrapping) error) ts) (updatedPid (pidRefusal s) F.zero 0 s)
+callUpdateTsPid s error ts =
+    cond (passes (pidRefusal s)) (afterWrap s (wrapError (s .wrapping) error) ts)
+    (updatedPid (pidRefusal s) F.zero 0 s)
 
 unfoldable pub callUpdatePid : Pid → Float → PidUpdated
 callUpdatePid s error = callUpdateTsPid s error (s .ts)

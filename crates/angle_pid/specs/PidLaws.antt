@@ -1,6 +1,6 @@
 -- What the controller's calls answer and leave: refused ones, the steps of an update, the integral, and NaN. Assumes nothing.
-use mathlib.Core.Path.{_≡_, refl}
-use mathlib.Core.Bool.{Bool, true, false, _&&_}
+use mathlib.Core.Path.{_≡_, refl, sym, ap, _∙_}
+use mathlib.Core.Bool.{Bool, true, false, _&&_, true≢false}
 use Prim.Native.Nat.{ℕ, _≤_, _<_}
 use lib.Ieee.{Float, nan, lt}
 use Rattle.float.specs.F32 as F
@@ -103,27 +103,57 @@ module _ (s : Pid) (error ts : Float) (good : pidRefusal s ≡ Refusal.None) whe
     unfolding callUpdateTsPid afterWrap wrapError passes
     update-beyond f = simp (good, on, wrap-by-beyond lt error min max (range-good s min max good on) f)
 
--- ---- the integral
+-- ---- an accepted update is one step on the wrapped error
+
+-- the error as it is wrapped: itself, where no wrapping is on, and else what the rule leads to
+abbrev pub wrappedError : Pid → Float → Float
+wrappedError s error = wrapError (s .wrapping) error .value
+
+pub wrapped-off : (s : Pid) (error : Float) → s .wrapping ≡ Range.Off → wrappedError s error ≡ error
+unfolding wrapError
+wrapped-off s error off = ap (λ (r : Range). wrapError r error .value) off
+
+pub wrapped-within : (s : Pid) (error min max y : Float) (k : ℕ) → s .wrapping ≡ Range.On min max → lt min max ≡ true → RisesBy (lt max) min (max -f min) error k y → k ≤ 64 → wrappedError s error ≡ y
+unfolding wrapError
+wrapped-within s error min max y k on o r h = ap (λ (range : Range). wrapError range error .value) on ∙ ap (λ (w : Wrapped). w .value) (wrap-by-within lt error min max o y k r h)
+
+passes-none : (why : Refusal) → why ≡ Refusal.None → passes why ≡ false → ⊥
+unfolding passes
+passes-none why e f = true≢false (sym (ap passes e) ∙ f)
+
+module _ (s : Pid) (error ts : Float) where
+  pub update-accepted : callUpdateTsPid s error ts .refusal ≡ Refusal.None
+      → callUpdateTsPid s error ts ≡ updatedPid Refusal.None (stepPid s (wrappedError s error) ts .y) (wrapError (s .wrapping) error .steps) (stepPid s (wrappedError s error) ts .pid)
+  update-accepted h = go (passes (pidRefusal s)) refl (passes (wrapError (s .wrapping) error .refusal)) refl
+    where
+      w : Wrapped
+      w = wrapError (s .wrapping) error
+
+      go : (b : Bool) → passes (pidRefusal s) ≡ b → (d : Bool) → passes (w .refusal) ≡ d → callUpdateTsPid s error ts ≡ updatedPid Refusal.None (stepPid s (w .value) ts .y) (w .steps) (stepPid s (w .value) ts .pid)
+      go false e d k = absurd (passes-none (pidRefusal s) (rw (update-bad s error ts e) at h) e)
+      go true e false k = absurd (passes-none (w .refusal) (rw (update-good s error ts e, after-refused s w ts k) at h) k)
+      go true e true k = update-good s error ts e ∙ after-settled s w ts k
+
+-- ---- the integral, after one step
 module _ (s : Pid) (error ts : Float) where
   abbrev pub pd : Float
   pd = proportional s error +f derivative s error ts .y
 
-  pub integral-grows : s .«integral_en» ≡ true → admits (s .«anti_windup») pd ≡ true → stepPid s error ts .pid .integral ≡ movedIntegral s error +f s .ki *f error *f ts
+  pub step-grows : s .«integral_en» ≡ true → admits (s .«anti_windup») pd ≡ true → stepPid s error ts .pid .integral ≡ movedIntegral s error +f s .ki *f error *f ts
   unfolding stepPid nextIntegral grown
-  integral-grows on inside = simp (on, inside)
+  step-grows on inside = simp (on, inside)
 
-  pub integral-off : s .«integral_en» ≡ false → stepPid s error ts .pid .integral ≡ movedIntegral s error
+  pub step-off : s .«integral_en» ≡ false → stepPid s error ts .pid .integral ≡ movedIntegral s error
   unfolding stepPid nextIntegral grown
-  integral-off off = simp off
+  step-off off = simp off
 
-  -- it grows only if min < P+D < max strictly
-  pub integral-stands : (min max : Float) → s .«anti_windup» ≡ Range.On min max → lt min pd && lt pd max ≡ false → stepPid s error ts .pid .integral ≡ movedIntegral s error
+  pub step-stands : (min max : Float) → s .«anti_windup» ≡ Range.On min max → lt min pd && lt pd max ≡ false → stepPid s error ts .pid .integral ≡ movedIntegral s error
   unfolding stepPid nextIntegral grown admits
-  integral-stands min max range outside = go (s .«integral_en») refl
+  step-stands min max range outside = go (s .«integral_en») refl
     where
       go : (b : Bool) → s .«integral_en» ≡ b → stepPid s error ts .pid .integral ≡ movedIntegral s error
       go true e = simp (e, range, outside)
-      go false e = integral-off e
+      go false e = step-off e
 
 -- ---- NaN passes the output limit
 limit-nan : (r : Range) → limited r nan ≡ nan
@@ -131,9 +161,31 @@ unfolding limited
 limit-nan Range.Off = refl
 limit-nan (Range.On min max) = clamp-nan min max
 
-pub nan-passes : (s : Pid) (error ts : Float) → proportional s error +f nextIntegral s error ts +f derivative s error ts .y ≡ nan → stepPid s error ts .y ≡ nan
+pub step-nan : (s : Pid) (error ts : Float) → proportional s error +f nextIntegral s error ts +f derivative s error ts .y ≡ nan → stepPid s error ts .y ≡ nan
 unfolding stepPid
-nan-passes s error ts h = rw h (limit-nan (s .«output_limit»))
+step-nan s error ts h = rw h (limit-nan (s .«output_limit»))
+
+-- ---- the integral and the answer of an accepted call of `update_ts`, on every state, built by hand too; e is the wrapped error
+module _ (s : Pid) (error ts : Float) (accepted : callUpdateTsPid s error ts .refusal ≡ Refusal.None) where
+  abbrev e : Float
+  e = wrappedError s error
+
+  -- where it is on and P+D lies in the anti-windup range, it is moved and grows
+  pub integral-grows : s .«integral_en» ≡ true → admits (s .«anti_windup») (pd s e ts) ≡ true
+      → callUpdateTsPid s error ts .pid .integral ≡ movedIntegral s e +f s .ki *f e *f ts
+  integral-grows on inside = rw (update-accepted s error ts accepted) (step-grows s e ts on inside)
+
+  -- where it is off, or not min < P+D < max strictly, it is moved only
+  pub integral-off : s .«integral_en» ≡ false → callUpdateTsPid s error ts .pid .integral ≡ movedIntegral s e
+  integral-off off = rw (update-accepted s error ts accepted) (step-off s e ts off)
+
+  pub integral-stands : (min max : Float) → s .«anti_windup» ≡ Range.On min max → lt min (pd s e ts) && lt (pd s e ts) max ≡ false
+      → callUpdateTsPid s error ts .pid .integral ≡ movedIntegral s e
+  integral-stands min max range outside = rw (update-accepted s error ts accepted) (step-stands s e ts min max range outside)
+
+  -- where P + I + D is NaN, so is the answer
+  pub nan-passes : proportional s e +f nextIntegral s e ts +f derivative s e ts .y ≡ nan → callUpdateTsPid s error ts .y ≡ nan
+  nan-passes h = rw (update-accepted s error ts accepted) (step-nan s e ts h)
 
 -- ---- a controller made from a good configuration has good parts, and an update keeps them: only 6 can refuse it from then on
 new-tau : (t : Tau) (ts : Float) → storedTau (newLpFilter t ts) ≡ t
@@ -150,6 +202,62 @@ unfolding storedTau stepLpFilter stepLowpass
 step-tau LpFilter.Off x = refl
 step-tau (LpFilter.On f) x = refl
 
+-- what an update leaves of a state: the gains, ts, the switch, the ranges and the low pass's time constant
+pub record SameParts (s next : Pid) : Type 0 where
+  pub same-kp : next .kp ≡ s .kp
+  pub same-ki : next .ki ≡ s .ki
+  pub same-kd : next .kd ≡ s .kd
+  pub same-ts : next .ts ≡ s .ts
+  pub same-switch : next .«integral_en» ≡ s .«integral_en»
+  pub same-wrapping : next .wrapping ≡ s .wrapping
+  pub same-limit : next .«output_limit» ≡ s .«output_limit»
+  pub same-windup : next .«anti_windup» ≡ s .«anti_windup»
+  pub same-tau : storedTau (next .«lp_filter») ≡ storedTau (s .«lp_filter»)
+
+same-itself : (s : Pid) → SameParts s s
+same-itself s =
+    record {
+      same-kp = refl;
+      same-ki = refl;
+      same-kd = refl;
+      same-ts = refl;
+      same-switch = refl;
+      same-wrapping = refl;
+      same-limit = refl;
+      same-windup = refl;
+      same-tau = refl;
+    }
+
+step-same : (s : Pid) (error ts : Float) → SameParts s (stepPid s error ts .pid)
+unfolding stepPid derivative
+step-same s error ts =
+    record {
+      same-kp = refl;
+      same-ki = refl;
+      same-kd = refl;
+      same-ts = refl;
+      same-switch = refl;
+      same-wrapping = refl;
+      same-limit = refl;
+      same-windup = refl;
+      same-tau = step-tau (s .«lp_filter») _;
+    }
+
+-- after any call of `update_ts`, accepted or refused, the parts are those before, and so is what refuses them
+pub update-parts : (s : Pid) (error ts : Float) → SameParts s (callUpdateTsPid s error ts .pid)
+update-parts s error ts = go (passes (pidRefusal s)) refl (passes (wrapError (s .wrapping) error .refusal)) refl
+  where
+    go : (b : Bool) → passes (pidRefusal s) ≡ b → (d : Bool) → passes (wrapError (s .wrapping) error .refusal) ≡ d → SameParts s (callUpdateTsPid s error ts .pid)
+    go false e d k = rw (update-bad s error ts e) (same-itself s)
+    go true e false k = rw (update-good s error ts e, after-refused s (wrapError (s .wrapping) error) ts k) (same-itself s)
+    go true e true k = rw (update-good s error ts e, after-settled s (wrapError (s .wrapping) error) ts k) (step-same s (wrappedError s error) ts)
+
+same-refusal : (s next : Pid) → SameParts s next → pidRefusal next ≡ pidRefusal s
+unfolding pidRefusal
+same-refusal s next p = rw (p .same-wrapping, p .same-limit, p .same-windup, p .same-tau)
+
 pub step-parts : (s : Pid) (error ts : Float) → pidRefusal (stepPid s error ts .pid) ≡ pidRefusal s
-unfolding pidRefusal stepPid derivative
-step-parts s error ts = simp step-tau
+step-parts s error ts = same-refusal s (stepPid s error ts .pid) (step-same s error ts)
+
+pub update-refusal : (s : Pid) (error ts : Float) → pidRefusal (callUpdateTsPid s error ts .pid) ≡ pidRefusal s
+update-refusal s error ts = same-refusal s (callUpdateTsPid s error ts .pid) (update-parts s error ts)

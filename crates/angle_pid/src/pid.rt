@@ -31,7 +31,8 @@ pub struct PidConfig {
     pub lp_filter: Tau,
 }
 
-// What `with_config` and the setters give: refused, the constructor's state is all zero, and a setter's is as it was.
+// What `with_config` and the setters give, the refusal and the state: refused, the constructor's state is all zero, and a
+// setter's is as it was.
 pub struct PidChanged {
     pub refusal: Refusal,
     pub pid: Pid,
@@ -62,7 +63,10 @@ fn parts_refusal(wrapping: Range, output_limit: Range, anti_windup: Range, tau: 
     ensures { λ r. ⌜ r ≡ partsRefusal wrapping «output_limit» «anti_windup» tau ⌝ }
 {
     let last = first_refusal(anti_windup.refusal(), tau.refusal());
-    first_refusal(wrapping.refusal(), first_refusal(output_limit.refusal(), last))
+    first_refusal(
+        wrapping.refusal(),
+        first_refusal(output_limit.refusal(), last),
+    )
 }
 
 // In the ideal form the gains of the integral and the derivative are multiples of kp.
