@@ -22,9 +22,9 @@ unfoldable pub hexFour : ℕ → List ℕ
 hexFour v = hexOf (v / 0x1000 % 16) ∷ hexOf (v / 0x100 % 16) ∷ hexOf (v / 0x10 % 16) ∷ hexOf (v % 16) ∷ []
 
 -- the digits of values, four to a number, the first one lowest: two numbers a value
-unfoldable pub digitsOf : List Float → List ℕ
-digitsOf [] = []
-digitsOf (x ∷ xs) = lowFirst (hexFour (Ieee.toBits binary32 x / 0x1_0000)) ∷ lowFirst (hexFour (Ieee.toBits binary32 x)) ∷ digitsOf xs
+unfoldable pub packedDigits : List Float → List ℕ
+packedDigits [] = []
+packedDigits (x ∷ xs) = lowFirst (hexFour (Ieee.toBits binary32 x / 0x1_0000)) ∷ lowFirst (hexFour (Ieee.toBits binary32 x)) ∷ packedDigits xs
 
 -- the w low bytes of a number, the lowest first
 unfoldable pub lowBytes : ℕ → ℕ → List ℕ
@@ -32,22 +32,22 @@ lowBytes zero v = []
 lowBytes (suc w) v = v % 256 ∷ lowBytes w (v / 256)
 
 -- n words from their digits, with the same byte after each
-unfoldable pub joined : ℕ → ℕ → List ℕ → List ℕ
-joined after zero d = []
-joined after (suc n) d = lowBytes 4 (getD d 0 0) ++ (lowBytes 4 (getD d 1 0) ++ (after ∷ joined after n (drop 2 d)))
+unfoldable pub unpackedWords : ℕ → ℕ → List ℕ → List ℕ
+unpackedWords after zero d = []
+unpackedWords after (suc n) d = lowBytes 4 (getD d 0 0) ++ (lowBytes 4 (getD d 1 0) ++ (after ∷ unpackedWords after n (drop 2 d)))
 
 -- ---- four digits at once
 
 -- the two bytes; a digit is a half of a byte
-bytes : ℕ → List ℕ
-bytes v = v / 0x100 % 0x100 ∷ v % 0x100 ∷ []
+twoBytes : ℕ → List ℕ
+twoBytes v = v / 0x100 % 0x100 ∷ v % 0x100 ∷ []
 
 digit-parts : (v : ℕ)
     → (v / 0x1000 % 16 ≡ v / 0x100 % 0x100 / 16) × (v / 0x100 % 16 ≡ v / 0x100 % 0x100 % 16) × (v / 0x10 % 16 ≡ v % 0x100 / 16) × (v % 16 ≡ v % 0x100 % 16)
 digit-parts v = omega arith
 
-digits-are : (v : ℕ) → fields 8 hexOf (halves 4 (bytes v)) ≡ lowFirst (hexFour v)
-unfolding hexFour bytes halves fields lowFirst
+digits-are : (v : ℕ) → fields 8 hexOf (halves 4 (twoBytes v)) ≡ lowFirst (hexFour v)
+unfolding hexFour twoBytes halves fields lowFirst
 digits-are v = let p = digit-parts v in rw (p .0, p .1, p .2, p .3)
 
 -- a digit without a test: the quotient is 1 where it is a letter, and 'a' comes 39 places after the character behind '9'
@@ -78,9 +78,9 @@ sum-fits c m h = omega (arith, and-le-l (letters c - letters c / 0x80) m, and-le
 
 pub four-at-once : (v : ℕ)
     → apart4 (apart8 v) + 0x3030_3030 + bitAnd (letters (apart4 (apart8 v)) - letters (apart4 (apart8 v)) / 0x80) 0x2727_2727 ≡ lowFirst (hexFour v)
-unfolding bytes halves fields
+unfolding twoBytes halves fields
 four-at-once v =
-    let ps = bytes v in
+    let ps = twoBytes v in
     let ds = halves 4 ps in
     let letter : ℕ → ℕ = λ d. (d + 118) / 128 in
     let hp : Below (2 ^ 8) ps = (omega arith, (omega arith, tt)) in
@@ -108,22 +108,22 @@ four-at-once v =
 
 -- ---- the digits of values, one after the other
 
-pub digits-more : (v : List Float) (l : List ℕ) (i u a b : ℕ) → i < length v → u ≡ Ieee.toBits binary32 (getD v i nan) → a ≡ lowFirst (hexFour (u / 0x1_0000)) → b ≡ lowFirst (hexFour u)
-    → sets (set (set l (2 * i) a) (2 * i + 1) b) (2 * (i + 1)) (digitsOf (drop (i + 1) v)) ≡ sets l (2 * i) (digitsOf (drop i v))
-unfolding digitsOf
-digits-more v l i u a b h eu ea eb =
+pub packed-more : (v : List Float) (l : List ℕ) (i u a b : ℕ) → i < length v → u ≡ Ieee.toBits binary32 (getD v i nan) → a ≡ lowFirst (hexFour (u / 0x1_0000)) → b ≡ lowFirst (hexFour u)
+    → sets (set (set l (2 * i) a) (2 * i + 1) b) (2 * (i + 1)) (packedDigits (drop (i + 1) v)) ≡ sets l (2 * i) (packedDigits (drop i v))
+unfolding packedDigits
+packed-more v l i u a b h eu ea eb =
     let p : 2 * i + 1 ≡ suc (2 * i) = omega arith in
     let q : 2 * (i + 1) ≡ suc (suc (2 * i)) = omega arith in
     rw (ea, eb, eu, p, q, add-one i, drop-cons v i nan h)
 
-pub digits-done : (v : List Float) (l : List ℕ) (i : ℕ) → length v ≤ i → l ≡ sets l (2 * i) (digitsOf (drop i v))
-unfolding digitsOf
-digits-done v l i h = rw (drop-of-length-le v h)
+pub packed-done : (v : List Float) (l : List ℕ) (i : ℕ) → length v ≤ i → l ≡ sets l (2 * i) (packedDigits (drop i v))
+unfolding packedDigits
+packed-done v l i h = rw (drop-of-length-le v h)
 
-digits-length : (v : List Float) → length (digitsOf v) ≡ 2 * length v
-unfolding digitsOf
-digits-length [] = refl
-digits-length (x ∷ v) = let h = digits-length v in omega arith
+packed-length : (v : List Float) → length (packedDigits v) ≡ 2 * length v
+unfolding packedDigits
+packed-length [] = refl
+packed-length (x ∷ v) = let h = packed-length v in omega arith
 
 -- ---- the bytes of four digits
 
@@ -164,25 +164,25 @@ two-fours v =
     rw (a, b, c)
 
 -- joined, the digits of values are their words, whatever stands after them
-joined-digits : (v : List Float) (rest : List ℕ) (after : ℕ) → joined after (length v) (digitsOf v ++ rest) ≡ wordsOf after v
-unfolding joined digitsOf wordsOf wordOf
-joined-digits [] rest after = refl
-joined-digits (x ∷ v) rest after =
+unpacked-packed : (v : List Float) (rest : List ℕ) (after : ℕ) → unpackedWords after (length v) (packedDigits v ++ rest) ≡ wordsOf after v
+unfolding unpackedWords packedDigits wordsOf wordOf
+unpacked-packed [] rest after = refl
+unpacked-packed (x ∷ v) rest after =
     let u = Ieee.toBits binary32 x in
-    rw (four-bytes (u / 0x1_0000), four-bytes u, joined-digits v rest after, ← two-fours u, append-assoc)
+    rw (four-bytes (u / 0x1_0000), four-bytes u, unpacked-packed v rest after, ← two-fours u, append-assoc)
 
-pub joined-words : (v : List Float) (d l o m : List ℕ) (after at : ℕ) → 2 * length v ≤ length d → l ≡ sets d 0 (digitsOf v) → m ≡ sets o at (joined after (length v) l)
+pub unpacked-words : (v : List Float) (d l o m : List ℕ) (after at : ℕ) → 2 * length v ≤ length d → l ≡ sets d 0 (packedDigits v) → m ≡ sets o at (unpackedWords after (length v) l)
     → m ≡ sets o at (wordsOf after v)
-joined-words v d l o m after at h el em =
-    let j : joined after (length v) l ≡ wordsOf after v = rw (el, sets-eq (digitsOf v) d 0 (omega (arith, digits-length v))) (joined-digits v _ after) in
+unpacked-words v d l o m after at h el em =
+    let j : unpackedWords after (length v) l ≡ wordsOf after v = rw (el, sets-eq (packedDigits v) d 0 (omega (arith, packed-length v))) (unpacked-packed v _ after) in
     em ∙ ap (sets o at) j
 
 -- ---- words one after the other
 
-pub joined-more : (d l m r : List ℕ) (after n at i : ℕ) → i < n → m ≡ sets l (at + 9 * i) (lowBytes 4 (getD d (2 * i) 0)) → r ≡ sets m (at + 9 * i + 4) (lowBytes 4 (getD d (2 * i + 1) 0))
-    → sets (set r (at + 9 * i + 8) after) (at + 9 * (i + 1)) (joined after (n - (i + 1)) (drop (2 * (i + 1)) d)) ≡ sets l (at + 9 * i) (joined after (n - i) (drop (2 * i) d))
-unfolding joined lowBytes
-joined-more d l m r after n at i h em er =
+pub unpacked-more : (d l m r : List ℕ) (after n at i : ℕ) → i < n → m ≡ sets l (at + 9 * i) (lowBytes 4 (getD d (2 * i) 0)) → r ≡ sets m (at + 9 * i + 4) (lowBytes 4 (getD d (2 * i + 1) 0))
+    → sets (set r (at + 9 * i + 8) after) (at + 9 * (i + 1)) (unpackedWords after (n - (i + 1)) (drop (2 * (i + 1)) d)) ≡ sets l (at + 9 * i) (unpackedWords after (n - i) (drop (2 * i) d))
+unfolding unpackedWords lowBytes
+unpacked-more d l m r after n at i h em er =
     let o = at + 9 * i in
     let a : n - i ≡ suc (n - (i + 1)) = omega arith in
     let b : 2 * (i + 1) ≡ 2 * i + 2 = omega arith in
@@ -192,6 +192,6 @@ joined-more d l m r after n at i h em er =
     let p9 : at + 9 * (i + 1) ≡ suc (suc (suc (suc (suc (suc (suc (suc (suc o)))))))) = omega arith in
     rw (er, em, a, b, p4, p8, p9, getD-drop (2 * i) d 0 0, getD-drop (2 * i) d 1 0, z, drop-drop 2 (2 * i) d)
 
-pub joined-done : (d l : List ℕ) (after n i o : ℕ) → n ≤ i → l ≡ sets l o (joined after (n - i) d)
-unfolding joined
-joined-done d l after n i o h = let a : n - i ≡ 0 = omega arith in rw a
+pub unpacked-done : (d l : List ℕ) (after n i o : ℕ) → n ≤ i → l ≡ sets l o (unpackedWords after (n - i) d)
+unfolding unpackedWords
+unpacked-done d l after n i o h = let a : n - i ≡ 0 = omega arith in rw a

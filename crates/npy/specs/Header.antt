@@ -24,8 +24,8 @@ cellWidth I2 = 2
 cellWidth Other = 0
 
 -- a kind that has cells
-abbrev pub isCell : Kind → Bool
-isCell k = ltb 0 (cellWidth k)
+abbrev pub hasCells : Kind → Bool
+hasCells k = ltb 0 (cellWidth k)
 
 unfoldable pub refusedHead : Refusal → Head
 refusedHead r = record { refusal = r; kind = Other; rows = 0; cols = 0; at = 0 }
@@ -33,8 +33,8 @@ refusedHead r = record { refusal = r; kind = Other; rows = 0; cols = 0; at = 0 }
 unfoldable pub acceptedHead : Kind → ℕ → ℕ → ℕ → Head
 acceptedHead k r c at = record { refusal = Refusal.None; kind = k; rows = r; cols = c; at = at }
 
-abbrev pub accepted : Head → Bool
-accepted h = passes (h .refusal)
+abbrev pub isAccepted : Head → Bool
+isAccepted h = passes (h .refusal)
 
 -- the header whose text is t, and whose data begin at a place
 unfoldable pub textHead : List ℕ → ℕ → Head
@@ -62,19 +62,19 @@ abbrev pub magic : List ℕ
 magic = 147 ∷ 78 ∷ 85 ∷ 77 ∷ 80 ∷ 89 ∷ []
 
 -- the bytes of the text's length: 2 in version 1.0, 4 in 2.0, and 0 where the start is of neither
-unfoldable pub widthOf : List ℕ → ℕ
-widthOf s =
+unfoldable pub lengthWidth : List ℕ → ℕ
+lengthWidth s =
     cond (leb 8 (length s) && (begins s magic && eqb (getD s 7 0) 0))
     (cond (eqb (getD s 6 0) 1) 2 (cond (eqb (getD s 6 0) 2) 4 0))
     0
 
 unfoldable pub headerOf : List ℕ → Head
-headerOf s = cond (eqb (widthOf s) 0) (refusedHead Refusal.Magic) (headerW (widthOf s) s)
+headerOf s = cond (eqb (lengthWidth s) 0) (refusedHead Refusal.Magic) (headerW (lengthWidth s) s)
 
 -- everything after the header; nothing where it is refused
 unfoldable pub dataOf : List ℕ → List ℕ
-dataOf s = cond (accepted (headerOf s)) (drop (headerOf s .at) s) []
+dataOf s = cond (isAccepted (headerOf s)) (drop (headerOf s .at) s) []
 
 -- a place of the memory block that a slice begins in: so many bytes after its start
 abbrev pub placeIn : ℕ × ℕ → ℕ → ℕ × ℕ
-placeIn start n = (start .0, n + start .1)
+placeIn ptr n = (ptr .0, n + ptr .1)

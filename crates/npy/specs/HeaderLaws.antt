@@ -19,7 +19,7 @@ use Rattle.npy.specs.declared.reader.Kind.{Kind}
 use Rattle.npy.specs.declared.reader.Head.{Head}
 use Rattle.npy.specs.declared.reader.Places.{Places}
 use Rattle.npy.specs.Text.{begins, decimal, kindOf, kindEnd, rowsAt, rowsEnd, colsAt, colsEnd, placesOf, spelled}
-use Rattle.npy.specs.Header.{lowFirst, magic, refusedHead, acceptedHead, accepted, textHead, textFits, textLength, headerW, widthOf, headerOf, dataOf, placeIn}
+use Rattle.npy.specs.Header.{lowFirst, magic, refusedHead, acceptedHead, isAccepted, textHead, textFits, textLength, headerW, lengthWidth, headerOf, dataOf, placeIn}
 
 -- one byte more of a number, from the high end: what is past the end counts as 0
 pub low-more : (s : List ℕ) (w i v : ℕ) → 0 < i → i ≤ w → v ≡ lowFirst (take (w - i) (drop i s))
@@ -54,8 +54,8 @@ byte-more v d w i hi hw h hd =
     let a : w - (i - 1) ≡ suc (w - i) = omega arith in
     rw (a, pow-suc) (omega arith)
 
-pub bytes-fit : (v w i : ℕ) → 0 < i → w ≤ 4 → v < 256 ^ (w - i) → v < 256 ^ 3
-bytes-fit v w i hi hw h = lt-of-lt-of-le h (pow-le-pow-right {n = 256} (lit< tt) {i = w - i} {j = 3} (omega arith))
+pub low-fits : (v w i : ℕ) → 0 < i → w ≤ 4 → v < 256 ^ (w - i) → v < 256 ^ 3
+low-fits v w i hi hw h = lt-of-lt-of-le h (pow-le-pow-right {n = 256} (lit< tt) {i = w - i} {j = 3} (omega arith))
 
 -- ---- what the code's answers are
 
@@ -125,8 +125,8 @@ fits-parts n b len h =
       eqb-true _ _ (and-right (leb (b + n) len) (eqb ((b + n) % 16) 0) h2),
     )
 
-pub width-small : (s : List ℕ) → widthOf s ≤ 4
-unfolding widthOf
+pub width-small : (s : List ℕ) → lengthWidth s ≤ 4
+unfolding lengthWidth
 width-small s = one-of (leb 8 (length s) && (begins s magic && eqb (getD s 7 0) 0)) (eqb (getD s 6 0) 1) (eqb (getD s 6 0) 2)
   where
     one-of : (a b c : Bool) → cond a (cond b 2 (cond c 4 0)) 0 ≤ 4
@@ -144,33 +144,33 @@ at-of false x y n hx hy = hy
 pub at-within : (s : List ℕ) → headerOf s .at ≤ length s
 unfolding headerOf headerW textHead acceptedHead refusedHead
 at-within s =
-    at-of (eqb (widthOf s) 0) _ _ (length s) (λ e. omega arith)
-    (at-of (leb (8 + widthOf s) (length s) && textFits (textLength (widthOf s) s) (8 + widthOf s) (length s)) _ _ (length s)
+    at-of (eqb (lengthWidth s) 0) _ _ (length s) (λ e. omega arith)
+    (at-of (leb (8 + lengthWidth s) (length s) && textFits (textLength (lengthWidth s) s) (8 + lengthWidth s) (length s)) _ _ (length s)
     (λ e.
-    at-of (spelled (take (textLength (widthOf s) s) (drop (8 + widthOf s) s)) (placesOf (take (textLength (widthOf s) s) (drop (8 + widthOf s) s)))) _ _ (length s)
-    (λ f. fits-parts (textLength (widthOf s) s) (8 + widthOf s) (length s) (and-right (leb (8 + widthOf s) (length s)) (textFits (textLength (widthOf s) s) (8 + widthOf s) (length s)) e) .2)
+    at-of (spelled (take (textLength (lengthWidth s) s) (drop (8 + lengthWidth s) s)) (placesOf (take (textLength (lengthWidth s) s) (drop (8 + lengthWidth s) s)))) _ _ (length s)
+    (λ f. fits-parts (textLength (lengthWidth s) s) (8 + lengthWidth s) (length s) (and-right (leb (8 + lengthWidth s) (length s)) (textFits (textLength (lengthWidth s) s) (8 + lengthWidth s) (length s)) e) .2)
     (omega arith))
     (omega arith))
 
-pub no-width : (s : List ℕ) (w : ℕ) → w ≡ widthOf s → w ≡ 0 → refusedHead Refusal.Magic ≡ headerOf s
+pub no-width : (s : List ℕ) (w : ℕ) → w ≡ lengthWidth s → w ≡ 0 → refusedHead Refusal.Magic ≡ headerOf s
 unfolding headerOf
-no-width s w h e = let z : widthOf s ≡ 0 = sym h ∙ e in simp (eq-eqb _ _ z)
+no-width s w h e = let z : lengthWidth s ≡ 0 = sym h ∙ e in simp (eq-eqb _ _ z)
 
-pub by-width : (s : List ℕ) (w : ℕ) → w ≡ widthOf s → (w ≡ 0 → ⊥) → headerW w s ≡ headerOf s
+pub by-width : (s : List ℕ) (w : ℕ) → w ≡ lengthWidth s → (w ≡ 0 → ⊥) → headerW w s ≡ headerOf s
 unfolding headerOf
 by-width s w h e = rw (← h, ne-eqb w 0 e)
 
-pub data-refused : (s : List ℕ) (h : Head) (t : Bool) → h ≡ headerOf s → t ≡ accepted h → t ≡ false → [] ≡ dataOf s
+pub data-refused : (s : List ℕ) (h : Head) (t : Bool) → h ≡ headerOf s → t ≡ isAccepted h → t ≡ false → [] ≡ dataOf s
 unfolding dataOf
 data-refused s h t e et g = rw (← e, ← et, g)
 
-pub data-given : (s : List ℕ) (h : Head) (t : Bool) → h ≡ headerOf s → t ≡ accepted h → t ≡ true → take (length s - h .at) (drop (h .at) s) ≡ dataOf s
+pub data-given : (s : List ℕ) (h : Head) (t : Bool) → h ≡ headerOf s → t ≡ isAccepted h → t ≡ true → take (length s - h .at) (drop (h .at) s) ≡ dataOf s
 unfolding dataOf
 data-given s h t e et g = to-end s (h .at) ∙ rw (← e, ← et, g)
 
 -- a header that is refused says nothing else
 abbrev Bare : Head → Type 0
-Bare h = accepted h ≡ false → h ≡ refusedHead (h .refusal)
+Bare h = isAccepted h ≡ false → h ≡ refusedHead (h .refusal)
 
 bare-of : (b : Bool) (x y : Head) → Bare x → Bare y → Bare (cond b x y)
 bare-of true x y hx hy = hx
@@ -188,21 +188,21 @@ bare-text : (t : List ℕ) (at : ℕ) → Bare (textHead t at)
 unfolding textHead
 bare-text t at = bare-of (spelled t (placesOf t)) (acceptedHead _ _ _ at) (refusedHead Refusal.Header) (bare-accepted _ _ _ at) (bare-refused Refusal.Header)
 
-pub refused-is : (s : List ℕ) → accepted (headerOf s) ≡ false → headerOf s ≡ refusedHead (headerOf s .refusal)
+pub refused-is : (s : List ℕ) → isAccepted (headerOf s) ≡ false → headerOf s ≡ refusedHead (headerOf s .refusal)
 unfolding headerOf headerW
 refused-is s =
-    bare-of (eqb (widthOf s) 0) (refusedHead Refusal.Magic) (headerW (widthOf s) s) (bare-refused Refusal.Magic)
-    (bare-of (leb (8 + widthOf s) (length s) && textFits (textLength (widthOf s) s) (8 + widthOf s) (length s))
-    (textHead (take (textLength (widthOf s) s) (drop (8 + widthOf s) s)) (8 + widthOf s + textLength (widthOf s) s)) (refusedHead Refusal.Header)
-    (bare-text (take (textLength (widthOf s) s) (drop (8 + widthOf s) s)) (8 + widthOf s + textLength (widthOf s) s))
+    bare-of (eqb (lengthWidth s) 0) (refusedHead Refusal.Magic) (headerW (lengthWidth s) s) (bare-refused Refusal.Magic)
+    (bare-of (leb (8 + lengthWidth s) (length s) && textFits (textLength (lengthWidth s) s) (8 + lengthWidth s) (length s))
+    (textHead (take (textLength (lengthWidth s) s) (drop (8 + lengthWidth s) s)) (8 + lengthWidth s + textLength (lengthWidth s) s)) (refusedHead Refusal.Header)
+    (bare-text (take (textLength (lengthWidth s) s) (drop (8 + lengthWidth s) s)) (8 + lengthWidth s + textLength (lengthWidth s) s))
     (bare-refused Refusal.Header))
 
-pub refused-at : (s : List ℕ) (h : Head) (t : Bool) → h ≡ headerOf s → t ≡ accepted h → t ≡ false → headerOf s .at ≡ 0
+pub refused-at : (s : List ℕ) (h : Head) (t : Bool) → h ≡ headerOf s → t ≡ isAccepted h → t ≡ false → headerOf s .at ≡ 0
 unfolding refusedHead
 refused-at s h t e et g = ap (λ (x : Head). x .at) (refused-is s (rw (← e, ← et) g))
 
-pub short : (s : List ℕ) (b n : ℕ) → n ≤ 1000 → length (take (b + n - b) (drop b s)) ≤ 1000
-short s b n h = rw (add-sub-cancel-left, length-take) (omega (arith, min-le-left n (length (drop b s))))
+pub text-short : (s : List ℕ) (b n : ℕ) → n ≤ 1000 → length (take (b + n - b) (drop b s)) ≤ 1000
+text-short s b n h = rw (add-sub-cancel-left, length-take) (omega (arith, min-le-left n (length (drop b s))))
 
 pub at-start : (p : ℕ × ℕ) (n : ℕ) → n ≡ 0 → p ≡ placeIn p n
 at-start p n e = rw (e, zero-add)

@@ -20,8 +20,8 @@ unfoldable pub within : ℕ → ℕ → ℕ → ℕ → Bool
 within lo hi but x = leb lo x && (leb x hi && not (eqb x but))
 
 -- 20 to 7e (hex), without '
-abbrev pub isKind : ℕ → Bool
-isKind = within 0x20 0x7e 0x27
+abbrev pub isKindByte : ℕ → Bool
+isKindByte = within 0x20 0x7e 0x27
 
 abbrev pub isDigit : ℕ → Bool
 isDigit = within 0x30 0x39 0
@@ -63,30 +63,30 @@ unfoldable pub kindOf : List ℕ → ℕ → Kind
 kindOf s n = cond (eqb n 3) (cond (begins s f4) F4 (cond (begins s i2) I2 Other)) Other
 
 -- `{'descr': '`
-abbrev pub opening : List ℕ
-opening = 123 ∷ 39 ∷ 100 ∷ 101 ∷ 115 ∷ 99 ∷ 114 ∷ 39 ∷ 58 ∷ 32 ∷ 39 ∷ []
+abbrev pub beforeKind : List ℕ
+beforeKind = 123 ∷ 39 ∷ 100 ∷ 101 ∷ 115 ∷ 99 ∷ 114 ∷ 39 ∷ 58 ∷ 32 ∷ 39 ∷ []
 
 -- `', 'fortran_order': False, 'shape': (`
-abbrev pub middle : List ℕ
-middle =
+abbrev pub beforeRows : List ℕ
+beforeRows =
     39 ∷ 44 ∷ 32 ∷ 39 ∷ 102 ∷ 111 ∷ 114 ∷ 116 ∷ 114 ∷ 97 ∷ 110 ∷ 95 ∷ 111 ∷ 114 ∷ 100 ∷ 101 ∷ 114 ∷ 39 ∷ 58 ∷ 32
     ∷ 70 ∷ 97 ∷ 108 ∷ 115 ∷ 101 ∷ 44 ∷ 32 ∷ 39 ∷ 115 ∷ 104 ∷ 97 ∷ 112 ∷ 101 ∷ 39 ∷ 58 ∷ 32 ∷ 40 ∷ []
 
 -- `, `
-abbrev pub comma : List ℕ
-comma = 44 ∷ 32 ∷ []
+abbrev pub beforeCols : List ℕ
+beforeCols = 44 ∷ 32 ∷ []
 
 -- `), }`
-abbrev pub closing : List ℕ
-closing = 41 ∷ 44 ∷ 32 ∷ 125 ∷ []
+abbrev pub afterCols : List ℕ
+afterCols = 41 ∷ 44 ∷ 32 ∷ 125 ∷ []
 
 -- a line feed
-abbrev pub ending : List ℕ
-ending = 10 ∷ []
+abbrev pub lineFeed : List ℕ
+lineFeed = 10 ∷ []
 
 -- X begins at 11
 unfoldable pub kindEnd : List ℕ → ℕ
-kindEnd t = endOf isKind t 11
+kindEnd t = endOf isKindByte t 11
 
 unfoldable pub rowsAt : List ℕ → ℕ
 rowsAt t = kindEnd t + 37
@@ -107,16 +107,16 @@ unfoldable pub placesOf : List ℕ → Places
 placesOf t = record { «kind_end» = kindEnd t; rows = rowsAt t; «rows_end» = rowsEnd t; cols = colsAt t; «cols_end» = colsEnd t; feed = feedAt t; end = feedAt t + 1 }
 
 unfoldable pub frontSpelled : List ℕ → Places → Bool
-frontSpelled t p = (begins t opening && kindFits (p .«kind_end» - 11)) && begins (drop (p .«kind_end») t) middle
+frontSpelled t p = (begins t beforeKind && kindFits (p .«kind_end» - 11)) && begins (drop (p .«kind_end») t) beforeRows
 
 unfoldable pub shapeSpelled : List ℕ → Places → Bool
 shapeSpelled t p =
-    (isNumber (getD t (p .rows) 0) (p .«rows_end» - p .rows) && begins (drop (p .«rows_end») t) comma)
+    (isNumber (getD t (p .rows) 0) (p .«rows_end» - p .rows) && begins (drop (p .«rows_end») t) beforeCols)
     && isNumber (getD t (p .cols) 0) (p .«cols_end» - p .cols)
 
 -- the line feed is the last byte
 unfoldable pub endSpelled : List ℕ → Places → Bool
-endSpelled t p = (begins (drop (p .«cols_end») t) closing && begins (drop (p .feed) t) ending) && eqb (length t) (p .end)
+endSpelled t p = (begins (drop (p .«cols_end») t) afterCols && begins (drop (p .feed) t) lineFeed) && eqb (length t) (p .end)
 
 unfoldable pub spelled : List ℕ → Places → Bool
 spelled t p = (frontSpelled t p && shapeSpelled t p) && endSpelled t p

@@ -13,7 +13,7 @@ use lib.Seq.{drop-cons}
 use lib.Dec.{eqb, leb, ltb, lit<}
 use Rattle.lemmas.specs.Cases.{and-left, and-right, lt-or-le}
 use Rattle.npy.specs.declared.reader.Places.{Places}
-use Rattle.npy.specs.Text.{begins, isKind, isDigit, isSpace, lead, endOf, decimal, kindFits, isNumber, opening, middle, comma, closing, ending, kindEnd, rowsAt, rowsEnd, colsAt, colsEnd, feedAt, placesOf, frontSpelled, shapeSpelled, endSpelled, spelled}
+use Rattle.npy.specs.Text.{begins, isKindByte, isDigit, isSpace, lead, endOf, decimal, kindFits, isNumber, beforeKind, beforeRows, beforeCols, afterCols, lineFeed, kindEnd, rowsAt, rowsEnd, colsAt, colsEnd, feedAt, placesOf, frontSpelled, shapeSpelled, endSpelled, spelled}
 
 begins-step : (s w : List ℕ) (i j : ℕ) → i < length s → j < length w
     → begins (drop i s) (drop j w) ≡ cond (eqb (getD s i 0) (getD w j 0)) (begins (drop (i + 1) s) (drop (j + 1) w)) false
@@ -110,35 +110,35 @@ pub no-number : (x e at : ℕ) → e < at → false ≡ isNumber x (e - at)
 unfolding isNumber
 no-number x e at h = let a : e - at ≡ 0 = omega arith in rw a
 
-pub places-of : (t : List ℕ) (a b c d : ℕ) → a ≡ endOf isKind t 11 → b ≡ endOf isDigit t (a + 37) → c ≡ endOf isDigit t (b + 2) → d ≡ endOf isSpace t (c + 4)
+pub places-of : (t : List ℕ) (a b c d : ℕ) → a ≡ endOf isKindByte t 11 → b ≡ endOf isDigit t (a + 37) → c ≡ endOf isDigit t (b + 2) → d ≡ endOf isSpace t (c + 4)
     → record { «kind_end» = a; rows = a + 37; «rows_end» = b; cols = b + 2; «cols_end» = c; feed = d; end = d + 1 } ≡ placesOf t
 unfolding placesOf kindEnd rowsAt rowsEnd colsAt colsEnd feedAt
 places-of t a b c d pa pb pc pd = simp (pd, pc, pb, pa)
 
 -- what an accepted text is, part by part
 pub record Spelled (t : List ℕ) : Type 0 where
-  pub opens : begins t opening ≡ true
+  pub opens : begins t beforeKind ≡ true
   pub kind : kindFits (kindEnd t - 11) ≡ true
-  pub joins : begins (drop (kindEnd t) t) middle ≡ true
+  pub joins : begins (drop (kindEnd t) t) beforeRows ≡ true
   pub rows : isNumber (getD t (rowsAt t) 0) (rowsEnd t - rowsAt t) ≡ true
-  pub parts : begins (drop (rowsEnd t) t) comma ≡ true
+  pub parts : begins (drop (rowsEnd t) t) beforeCols ≡ true
   pub cols : isNumber (getD t (colsAt t) 0) (colsEnd t - colsAt t) ≡ true
-  pub closes : begins (drop (colsEnd t) t) closing ≡ true
-  pub feeds : begins (drop (feedAt t) t) ending ≡ true
+  pub closes : begins (drop (colsEnd t) t) afterCols ≡ true
+  pub feeds : begins (drop (feedAt t) t) lineFeed ≡ true
   pub ends : length t ≡ feedAt t + 1
 
-three : (a b c : Bool) → ((a && b) && c) ≡ true → (a ≡ true) × (b ≡ true) × (c ≡ true)
-three true true c h = (refl, refl, h)
-three true false c h = let z : false ≡ true = h in (refl, h, (cc))
-three false b c h = let z : false ≡ true = h in (h, (cc), (cc))
+all-three : (a b c : Bool) → ((a && b) && c) ≡ true → (a ≡ true) × (b ≡ true) × (c ≡ true)
+all-three true true c h = (refl, refl, h)
+all-three true false c h = let z : false ≡ true = h in (refl, h, (cc))
+all-three false b c h = let z : false ≡ true = h in (h, (cc), (cc))
 
 pub spelled-parts : (t : List ℕ) → spelled t (placesOf t) ≡ true → Spelled t
 unfolding spelled frontSpelled shapeSpelled endSpelled placesOf
 spelled-parts t h =
-    let a = three (frontSpelled t (placesOf t)) (shapeSpelled t (placesOf t)) (endSpelled t (placesOf t)) h in
-    let f = three (begins t opening) (kindFits (kindEnd t - 11)) (begins (drop (kindEnd t) t) middle) (a .0) in
-    let s = three (isNumber (getD t (rowsAt t) 0) (rowsEnd t - rowsAt t)) (begins (drop (rowsEnd t) t) comma) (isNumber (getD t (colsAt t) 0) (colsEnd t - colsAt t)) (a .1) in
-    let e = three (begins (drop (colsEnd t) t) closing) (begins (drop (feedAt t) t) ending) (eqb (length t) (feedAt t + 1)) (a .2) in
+    let a = all-three (frontSpelled t (placesOf t)) (shapeSpelled t (placesOf t)) (endSpelled t (placesOf t)) h in
+    let f = all-three (begins t beforeKind) (kindFits (kindEnd t - 11)) (begins (drop (kindEnd t) t) beforeRows) (a .0) in
+    let s = all-three (isNumber (getD t (rowsAt t) 0) (rowsEnd t - rowsAt t)) (begins (drop (rowsEnd t) t) beforeCols) (isNumber (getD t (colsAt t) 0) (colsEnd t - colsAt t)) (a .1) in
+    let e = all-three (begins (drop (colsEnd t) t) afterCols) (begins (drop (feedAt t) t) lineFeed) (eqb (length t) (feedAt t + 1)) (a .2) in
     record {
       opens = f .0;
       kind = f .1;
@@ -178,4 +178,4 @@ cols-part t p e h =
 
 pub kind-part : (t : List ℕ) (p : Places) → p ≡ placesOf t → 11 ≤ p .«kind_end»
 unfolding placesOf kindEnd
-kind-part t p e = rw e (end-within isKind t 11 .0)
+kind-part t p e = rw e (end-within isKindByte t 11 .0)

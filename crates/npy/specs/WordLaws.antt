@@ -111,15 +111,15 @@ lines-of-one (x ∷ v) = rw (← lines-of-one v)
 pub rows-of-one : (v : List Float) (l m : List ℕ) (at k : ℕ) → k ≡ 1 → m ≡ sets l at (wordsOf 10 v) → m ≡ sets l at (linesOf k (length v / k) v)
 rows-of-one v l m at k e em = em ∙ rw (e, div-one (length v), lines-of-one v)
 
-whole : (n k : ℕ) → n % k ≡ 0 → n ≡ n / k * k
-whole n k h = omega (arith, div-add-mod' n k)
+whole-rows-exact : (n k : ℕ) → n % k ≡ 0 → n ≡ n / k * k
+whole-rows-exact n k h = omega (arith, div-add-mod' n k)
 
 pub rows-room : (n k at len : ℕ) → n % k ≡ 0 → at + 9 * n ≤ len → at + n / k * (9 * k) ≤ len
-rows-room n k at len h r = rw (mul-left-comm (n / k) 9 k) (omega (arith, whole n k h))
+rows-room n k at len h r = rw (mul-left-comm (n / k) 9 k) (omega (arith, whole-rows-exact n k h))
 
 pub rows-ended : (v : List Float) (l m r : List ℕ) (at k : ℕ) → 0 < k → length v % k ≡ 0 → m ≡ sets l at (wordsOf 32 v) → r ≡ endLines (length v / k) (9 * k) at m
     → r ≡ sets l at (linesOf k (length v / k) v)
-rows-ended v l m r at k p h em er = er ∙ rw em (lines-ended k (length v / k) v l at p (whole (length v) k h))
+rows-ended v l m r at k p h em er = er ∙ rw em (lines-ended k (length v / k) v l at p (whole-rows-exact (length v) k h))
 
 -- ---- line feeds one after the other
 
@@ -150,8 +150,8 @@ line-room at n len b e h =
     omega arith
 
 -- what is left where a test refuses, and where it does not
-pub kept : {b fits : Bool} (at end : ℕ) (l m : List ℕ) → b ≡ fits → b ≡ false → (at ≡ cond fits end at) × (l ≡ cond fits m l)
-kept at end l m e h = let t = sym e ∙ h in (rw t, rw t)
+pub unwritten : {b fits : Bool} (at end : ℕ) (l m : List ℕ) → b ≡ fits → b ≡ false → (at ≡ cond fits end at) × (l ≡ cond fits m l)
+unwritten at end l m e h = let t = sym e ∙ h in (rw t, rw t)
 
 pub written : {b fits : Bool} (at end : ℕ) (l m w : List ℕ) → b ≡ fits → b ≡ true → w ≡ m → (end ≡ cond fits end at) × (w ≡ cond fits m l)
 written at end l m w e h g = let t = sym e ∙ h in (rw t, g ∙ rw t)

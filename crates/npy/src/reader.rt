@@ -4,7 +4,7 @@ ghost use Prim.Native.Nat.{_+_, _-_, _≤_, _<_, _^_};
 ghost use mathlib.Core.Bool.{true, false, _&&_};
 ghost use lib.ListN.{length, take, drop, getD};
 ghost use Rattle.npy.specs.Text.{begins, within, endOf, decimal, isNumber, kindOf, placesOf, kindFits, frontSpelled, shapeSpelled, endSpelled, spelled};
-ghost use Rattle.npy.specs.Header.{lowFirst, cellWidth, refusedHead, textHead, textFits, headerW, widthOf, headerOf, dataOf, placeIn};
+ghost use Rattle.npy.specs.Header.{lowFirst, cellWidth, refusedHead, textHead, textFits, headerW, lengthWidth, headerOf, dataOf, placeIn};
 use refusal::Refusal;
 
 // The element kinds that some array is accepted with; every other one is `Other`, which none is.
@@ -333,7 +333,7 @@ fn header_w(s: &[u8], w: usize) -> Head
 
 // How many bytes the text's length has: 2 in version 1.0, 4 in 2.0. 0 where the start is of neither.
 fn length_width(s: &[u8]) -> usize
-    ensures { λ r. ⌜ r ≡ widthOf (now (s .entry)) ⌝ }
+    ensures { λ r. ⌜ r ≡ lengthWidth (now (s .entry)) ⌝ }
 {
     if s.len() < 8 {
         return 0;

@@ -5,7 +5,7 @@ ghost use lib.ListN.{length};
 ghost use lib.Seq.{sets};
 ghost use Rattle.npy.specs.Header.{lowFirst};
 ghost use Rattle.npy.specs.Word.{wordsOf, linesOf, endLines, lineFits, lineEnd, putLine, linesFit, linesEnd, putLines};
-ghost use Rattle.npy.specs.Digits.{hexFour, digitsOf, lowBytes, joined};
+ghost use Rattle.npy.specs.Digits.{hexFour, packedDigits, lowBytes, unpackedWords};
 
 // The lower 4 digits of v as the bytes of one number, the first digit lowest: all of them at once. First the two bytes of v stand apart,
 // then the four digits. 118 more sets the top bit of a byte where its digit is 10 or more, and of that bit less 1 a mask leaves 39, by
@@ -23,7 +23,7 @@ fn four_digits(v: u32) -> u32
 // of its own, why it writes no bytes, and why its numbers have 32 bits.
 fn find_digits(values: &[f32], digits: &mut [u32])
     requires { ⌜ 2 * length (now values) ≤ length (now digits) ⌝ }
-    ensures { λ _. ⌜ now (digits .exit) ≡ sets (now (digits .entry)) 0 (digitsOf (now (values .entry))) ⌝ }
+    ensures { λ _. ⌜ now (digits .exit) ≡ sets (now (digits .entry)) 0 (packedDigits (now (values .entry))) ⌝ }
 {
     let n = values.len();
     let mut i = 0;
@@ -49,7 +49,7 @@ fn put_four(out: &mut [u8], o: usize, v: u32)
 // The words of n values from their digits, each with the same byte after it.
 fn join_digits(digits: &[u32], n: usize, after: u8, out: &mut [u8], at: usize)
     requires { ⌜ (2 * n ≤ length (now digits)) × (at + 9 * n ≤ length (now out)) ⌝ }
-    ensures { λ _. ⌜ now (out .exit) ≡ sets (now (out .entry)) at (joined after n (now (digits .entry))) ⌝ }
+    ensures { λ _. ⌜ now (out .exit) ≡ sets (now (out .entry)) at (unpackedWords after n (now (digits .entry))) ⌝ }
 {
     let mut i = 0;
     while i < n {
@@ -65,7 +65,7 @@ fn join_digits(digits: &[u32], n: usize, after: u8, out: &mut [u8], at: usize)
 // filled with zeros each time.
 fn put_block(values: &[f32], digits: &mut [u32], after: u8, out: &mut [u8], at: usize)
     requires { ⌜ (2 * length (now values) ≤ length (now digits)) × (at + 9 * length (now values) ≤ length (now out)) ⌝ }
-    ensures { λ _. ⌜ (now (digits .exit) ≡ sets (now (digits .entry)) 0 (digitsOf (now (values .entry)))) × (now (out .exit) ≡ sets (now (out .entry)) at (wordsOf after (now (values .entry)))) ⌝ }
+    ensures { λ _. ⌜ (now (digits .exit) ≡ sets (now (digits .entry)) 0 (packedDigits (now (values .entry)))) × (now (out .exit) ≡ sets (now (out .entry)) at (wordsOf after (now (values .entry)))) ⌝ }
 {
     find_digits(values, digits);
     join_digits(digits, values.len(), after, out, at);

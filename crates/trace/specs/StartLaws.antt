@@ -15,7 +15,7 @@ use Rattle.refusal.specs.Refusal.{passes}
 use Rattle.npy.specs.declared.reader.Kind.{Kind}
 use Rattle.npy.specs.declared.reader.Kind.the-variants.{F4}
 use Rattle.npy.specs.declared.reader.Head.{Head}
-use Rattle.npy.specs.Header.{isCell, accepted, headerOf}
+use Rattle.npy.specs.Header.{hasCells, isAccepted, headerOf}
 use Rattle.npy.specs.HeaderLaws.{to-end, at-within}
 use Rattle.npy.specs.Cell.{cellOf}
 use Rattle.bank.specs.declared.lane.Op.{Op}
@@ -33,27 +33,27 @@ use Rattle.trace.specs.TraceLaws.{Settings, settings-parts}
 -- ---- the settings, test by test
 
 module _ (h : Head) (len : ℕ) where
-  pub settings-header : (p : Bool) → p ≡ accepted h → p ≡ false → h .refusal ≡ settingsRefusal h len
+  pub settings-header : (p : Bool) → p ≡ isAccepted h → p ≡ false → h .refusal ≡ settingsRefusal h len
   unfolding settingsRefusal
   settings-header p e g = rw (← e, g)
 
-  settings-tests : (p t u : Bool) → p ≡ accepted h → p ≡ true → t ≡ isF4 (h .kind) → u ≡ (leb 1 (h .rows) && (leb (h .rows) 8 && eqb (h .cols) 5))
+  settings-tests : (p t u : Bool) → p ≡ isAccepted h → p ≡ true → t ≡ isF4 (h .kind) → u ≡ (leb 1 (h .rows) && (leb (h .rows) 8 && eqb (h .cols) 5))
       → settingsRefusal h len ≡ cond t (cond u (cond (leb (h .at + h .rows * 20) len) Refusal.None Refusal.Cut) Refusal.Shape) Refusal.Kind
   unfolding settingsRefusal
   settings-tests p t u e g et eu = rw (← e, g, et, eu)
 
-  pub settings-kind : (p t : Bool) → p ≡ accepted h → p ≡ true → t ≡ isF4 (h .kind) → t ≡ false → Refusal.Kind ≡ settingsRefusal h len
+  pub settings-kind : (p t : Bool) → p ≡ isAccepted h → p ≡ true → t ≡ isF4 (h .kind) → t ≡ false → Refusal.Kind ≡ settingsRefusal h len
   settings-kind p t e g et h0 = sym (settings-tests p t _ e g et refl ∙ simp h0)
 
-  pub settings-shape : (p t u : Bool) → p ≡ accepted h → p ≡ true → t ≡ isF4 (h .kind) → t ≡ true
+  pub settings-shape : (p t u : Bool) → p ≡ isAccepted h → p ≡ true → t ≡ isF4 (h .kind) → t ≡ true
       → u ≡ (leb 1 (h .rows) && (leb (h .rows) 8 && eqb (h .cols) 5)) → u ≡ false → Refusal.Shape ≡ settingsRefusal h len
   settings-shape p t u e g et h0 eu h1 = sym (settings-tests p t u e g et eu ∙ simp (h0, h1))
 
-  pub settings-cut : (p t u : Bool) → p ≡ accepted h → p ≡ true → t ≡ isF4 (h .kind) → t ≡ true
+  pub settings-cut : (p t u : Bool) → p ≡ isAccepted h → p ≡ true → t ≡ isF4 (h .kind) → t ≡ true
       → u ≡ (leb 1 (h .rows) && (leb (h .rows) 8 && eqb (h .cols) 5)) → u ≡ true → h .at ≤ len → len - h .at < h .rows * 20 → Refusal.Cut ≡ settingsRefusal h len
   settings-cut p t u e g et h0 eu h1 a b = sym (settings-tests p t u e g et eu ∙ simp (h0, h1, lt-leb (h .at + h .rows * 20) len (omega arith)))
 
-  pub settings-none : (p t u : Bool) → p ≡ accepted h → p ≡ true → t ≡ isF4 (h .kind) → t ≡ true
+  pub settings-none : (p t u : Bool) → p ≡ isAccepted h → p ≡ true → t ≡ isF4 (h .kind) → t ≡ true
       → u ≡ (leb 1 (h .rows) && (leb (h .rows) 8 && eqb (h .cols) 5)) → u ≡ true → h .at ≤ len → h .rows * 20 ≤ len - h .at → Refusal.None ≡ settingsRefusal h len
   settings-none p t u e g et h0 eu h1 a b = sym (settings-tests p t u e g et eu ∙ simp (h0, h1, le-leb (h .at + h .rows * 20) len (omega arith)))
 
@@ -68,22 +68,22 @@ rows-shape rows cols u e h = go (leb 1 rows) (leb rows 8) refl refl (sym e ∙ h
 -- ---- the trace's header, test by test
 
 module _ (k : ℕ) (h : Head) where
-  pub trace-header : (p : Bool) → p ≡ accepted h → p ≡ false → h .refusal ≡ traceRefusal k h
+  pub trace-header : (p : Bool) → p ≡ isAccepted h → p ≡ false → h .refusal ≡ traceRefusal k h
   unfolding traceRefusal
   trace-header p e g = rw (← e, g)
 
-  trace-tests : (p t : Bool) → p ≡ accepted h → p ≡ true → t ≡ isCell (h .kind)
+  trace-tests : (p t : Bool) → p ≡ isAccepted h → p ≡ true → t ≡ hasCells (h .kind)
       → traceRefusal k h ≡ cond t (cond (eqb (h .cols) (k * 3)) Refusal.None Refusal.Shape) Refusal.Kind
   unfolding traceRefusal
   trace-tests p t e g et = rw (← e, g, et)
 
-  pub trace-kind : (p t : Bool) → p ≡ accepted h → p ≡ true → t ≡ isCell (h .kind) → t ≡ false → Refusal.Kind ≡ traceRefusal k h
+  pub trace-kind : (p t : Bool) → p ≡ isAccepted h → p ≡ true → t ≡ hasCells (h .kind) → t ≡ false → Refusal.Kind ≡ traceRefusal k h
   trace-kind p t e g et h0 = sym (trace-tests p t e g et ∙ simp h0)
 
-  pub trace-shape : (p t : Bool) → p ≡ accepted h → p ≡ true → t ≡ isCell (h .kind) → t ≡ true → (h .cols ≡ k * 3 → ⊥) → Refusal.Shape ≡ traceRefusal k h
+  pub trace-shape : (p t : Bool) → p ≡ isAccepted h → p ≡ true → t ≡ hasCells (h .kind) → t ≡ true → (h .cols ≡ k * 3 → ⊥) → Refusal.Shape ≡ traceRefusal k h
   trace-shape p t e g et h0 h1 = sym (trace-tests p t e g et ∙ simp (h0, ne-eqb _ _ h1))
 
-  pub trace-none : (p t : Bool) → p ≡ accepted h → p ≡ true → t ≡ isCell (h .kind) → t ≡ true → h .cols ≡ k * 3 → Refusal.None ≡ traceRefusal k h
+  pub trace-none : (p t : Bool) → p ≡ isAccepted h → p ≡ true → t ≡ hasCells (h .kind) → t ≡ true → h .cols ≡ k * 3 → Refusal.None ≡ traceRefusal k h
   trace-none p t e g et h0 h1 = sym (trace-tests p t e g et ∙ simp (h0, eq-eqb _ _ h1))
 
 -- ---- the lanes that are opened

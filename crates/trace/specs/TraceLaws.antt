@@ -14,7 +14,7 @@ use Rattle.refusal.specs.declared.Refusal.{Refusal}
 use Rattle.refusal.specs.declared.Refusal.the-variants as Refusal
 use Rattle.refusal.specs.Refusal.{passes}
 use Rattle.npy.specs.declared.reader.Head.{Head}
-use Rattle.npy.specs.Header.{isCell, cellWidth, accepted, headerOf}
+use Rattle.npy.specs.Header.{hasCells, cellWidth, isAccepted, headerOf}
 use Rattle.npy.specs.HeaderLaws.{at-within}
 use Rattle.trace.specs.declared.course.Course.{Course}
 use Rattle.trace.specs.declared.course.Begun.{Begun}
@@ -30,7 +30,7 @@ not-given false x y h e = let z : false ≡ true = sym (h refl) ∙ e in ((cc), 
 
 -- what an accepted first array is
 pub record Settings (h : Head) (len : ℕ) : Type 0 where
-  pub good : accepted h ≡ true
+  pub good : isAccepted h ≡ true
   pub kind : isF4 (h .kind) ≡ true
   pub some : 1 ≤ h .rows
   pub few : h .rows ≤ 8
@@ -40,7 +40,7 @@ pub record Settings (h : Head) (len : ℕ) : Type 0 where
 pub settings-parts : (h : Head) (len : ℕ) → passes (settingsRefusal h len) ≡ true → Settings h len
 unfolding settingsRefusal passes
 settings-parts h len e =
-    let a = not-given (accepted h) _ (h .refusal) (λ x. x) e in
+    let a = not-given (isAccepted h) _ (h .refusal) (λ x. x) e in
     let b = not-given (isF4 (h .kind)) _ Refusal.Kind (λ x. refl) (a .1) in
     let c = not-given (leb 1 (h .rows) && (leb (h .rows) 8 && eqb (h .cols) 5)) _ Refusal.Shape (λ x. refl) (b .1) in
     let d = not-given (leb (h .at + settingsBytes (h .rows)) len) Refusal.None Refusal.Cut (λ x. refl) (c .1) in
@@ -55,11 +55,11 @@ settings-parts h len e =
     }
 
 -- what an accepted header of the trace is
-pub trace-parts : (k : ℕ) (h : Head) → passes (traceRefusal k h) ≡ true → (accepted h ≡ true) × (isCell (h .kind) ≡ true) × (h .cols ≡ k * 3)
+pub trace-parts : (k : ℕ) (h : Head) → passes (traceRefusal k h) ≡ true → (isAccepted h ≡ true) × (hasCells (h .kind) ≡ true) × (h .cols ≡ k * 3)
 unfolding traceRefusal passes
 trace-parts k h e =
-    let a = not-given (accepted h) _ (h .refusal) (λ x. x) e in
-    let b = not-given (isCell (h .kind)) _ Refusal.Kind (λ x. refl) (a .1) in
+    let a = not-given (isAccepted h) _ (h .refusal) (λ x. x) e in
+    let b = not-given (hasCells (h .kind)) _ Refusal.Kind (λ x. refl) (a .1) in
     let c = not-given (eqb (h .cols) (k * 3)) Refusal.None Refusal.Shape (λ x. refl) (b .1) in
     (a .0, b .0, eqb-true _ _ (c .0))
 
@@ -76,7 +76,7 @@ secondHead s = headerOf (drop (secondAt s) s)
 -- an accepted start
 pub record Started (s : List ℕ) : Type 0 where
   pub settings : Settings (firstHead s) (length s)
-  pub trace : (accepted (secondHead s) ≡ true) × (isCell (secondHead s .kind) ≡ true) × (secondHead s .cols ≡ firstHead s .rows * 3)
+  pub trace : (isAccepted (secondHead s) ≡ true) × (hasCells (secondHead s .kind) ≡ true) × (secondHead s .cols ≡ firstHead s .rows * 3)
   pub kind : startOf s .course .kind ≡ secondHead s .kind
   pub lanes : startOf s .course .lanes ≡ firstHead s .rows
   pub left : startOf s .course .left ≡ secondHead s .rows

@@ -17,7 +17,7 @@ use Rattle.refusal.specs.declared.Refusal.{Refusal}
 use Rattle.refusal.specs.declared.Refusal.the-variants as Refusal
 use Rattle.refusal.specs.Refusal.{numberOf, passes}
 use Rattle.npy.specs.declared.reader.Head.{Head}
-use Rattle.npy.specs.Header.{accepted, refusedHead, headerOf}
+use Rattle.npy.specs.Header.{isAccepted, refusedHead, headerOf}
 use Rattle.npy.specs.HeaderLaws.{to-end, refused-is}
 use Rattle.npy.specs.HeaderStart.{shape-small}
 use Rattle.trace.specs.declared.course.Course.{Course}
@@ -35,9 +35,9 @@ use Rattle.trace.specs.EndLaws.{one-digit, two-digits}
 -- a header names fewer than 10⁹ rows; refused, none
 pub few-rows : (s : List ℕ) → headerOf s .rows < 1000000000
 unfolding refusedHead
-few-rows s = go (accepted (headerOf s)) refl
+few-rows s = go (isAccepted (headerOf s)) refl
   where
-    go : (t : Bool) → accepted (headerOf s) ≡ t → headerOf s .rows < 1000000000
+    go : (t : Bool) → isAccepted (headerOf s) ≡ t → headerOf s .rows < 1000000000
     go true e = shape-small s e .0
     go false e = let z : headerOf s .rows ≡ 0 = ap (λ (h : Head). h .rows) (refused-is s e) in omega arith
 

@@ -17,7 +17,7 @@ use Rattle.refusal.specs.Refusal.{passes}
 use Rattle.npy.specs.declared.reader.Kind.{Kind}
 use Rattle.npy.specs.declared.reader.Kind.the-variants.{F4}
 use Rattle.npy.specs.declared.reader.Head.{Head}
-use Rattle.npy.specs.Header.{headerOf, accepted}
+use Rattle.npy.specs.Header.{headerOf, isAccepted}
 use Rattle.npy.specs.HeaderLaws.{drop-take, at-within}
 use Rattle.npy.specs.HeaderStart.{leb-take, window-decides}
 use Rattle.npy.specs.CellLaws.{cell-start, cells-take}
@@ -218,8 +218,8 @@ settings-take n s h l = go (leb 1 (h .rows)) (leb (h .rows) 8) refl (eqb (h .col
     same m = leb-take (h .at + settingsBytes (h .rows)) n s (omega arith)
 
     go : (a b : Bool) → leb (h .rows) 8 ≡ b → (d : Bool)
-        → cond (accepted h) (cond (isF4 (h .kind)) (cond (a && (b && d)) (X (leb (h .at + settingsBytes (h .rows)) (length (take n s)))) Refusal.Shape) Refusal.Kind) (h .refusal)
-        ≡ cond (accepted h) (cond (isF4 (h .kind)) (cond (a && (b && d)) (X (leb (h .at + settingsBytes (h .rows)) (length s))) Refusal.Shape) Refusal.Kind) (h .refusal)
+        → cond (isAccepted h) (cond (isF4 (h .kind)) (cond (a && (b && d)) (X (leb (h .at + settingsBytes (h .rows)) (length (take n s)))) Refusal.Shape) Refusal.Kind) (h .refusal)
+        ≡ cond (isAccepted h) (cond (isF4 (h .kind)) (cond (a && (b && d)) (X (leb (h .at + settingsBytes (h .rows)) (length s))) Refusal.Shape) Refusal.Kind) (h .refusal)
     go true true e d = rw (same (leb-true (h .rows) 8 e))
     go true false e d = refl
     go false b e d = refl

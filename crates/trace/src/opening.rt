@@ -4,7 +4,7 @@ ghost use Prim.Native.Nat.{_≤_};
 ghost use mathlib.Core.Bool.{_&&_};
 ghost use lib.Dec.{leb, eqb};
 ghost use lib.ListN.{length, drop};
-ghost use Rattle.npy.specs.Header.{isCell};
+ghost use Rattle.npy.specs.Header.{hasCells};
 ghost use Rattle.trace.specs.Windows.{startBytes};
 ghost use Rattle.trace.specs.Trace.{isF4, settingsRefusal, openOf, openedBank, traceRefusal, refusedStart, traceStart, startOf};
 use crate::course::Begun;
@@ -33,8 +33,8 @@ fn is_f4(kind: Kind) -> bool
     }
 }
 
-pub(crate) fn is_cell(kind: Kind) -> bool
-    ensures { λ r. ⌜ r ≡ isCell kind ⌝ }
+pub(crate) fn has_cells(kind: Kind) -> bool
+    ensures { λ r. ⌜ r ≡ hasCells kind ⌝ }
 {
     0 < kind.width()
 }
@@ -84,7 +84,7 @@ fn trace_refusal(k: usize, head: Head) -> Refusal
     if !why.passes() {
         return why;
     }
-    if !is_cell(kind) {
+    if !has_cells(kind) {
         return Refusal::Kind;
     }
     if head.cols != k * 3 {

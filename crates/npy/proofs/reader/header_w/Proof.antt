@@ -1,7 +1,7 @@
 use native.Mathlib.Nat.{lt-of-lt-of-le, pow-le-pow-right}
 use lib.Dec.{lit<}
 use borrow.Author.Tests.{not-true, not-false}
-use Rattle.npy.specs.HeaderLaws.{length-cut, text-length, text-misfits, text-read, fits-parts, short}
+use Rattle.npy.specs.HeaderLaws.{length-cut, text-length, text-misfits, text-read, fits-parts, text-short}
 use mathlib.Core.Path.{sym, _∙_}
 use native.Mathlib.Omega.{arith}
 use borrow.Author.Needs.{needs}
@@ -51,7 +51,7 @@ part-read-text-end : tie.Need-part-read-text-end
 part-read-text-end c = omega (arith, fits-parts _ _ _ (sym (c .before .text-fits .ensures) ∙ not-false _ (c .if2 .left)) .2)
 
 read-text-requires : tie.Need-read-text-requires
-read-text-requires c κs = short _ _ _ (fits-parts _ _ _ (sym (c .before .before .text-fits .ensures) ∙ not-false _ (c .before .if2 .left)) .1)
+read-text-requires c κs = text-short _ _ _ (fits-parts _ _ _ (sym (c .before .before .text-fits .ensures) ∙ not-false _ (c .before .if2 .left)) .1)
 
 returns-3 : tie.Need-returns-3
 returns-3 c = c .read-text .ensures ∙ text-read _ _ _ _ (c .before .before .before .before .before .before .if1 .left) (text-length _ _ _ (c .before .before .before .before .low-first .ensures .0)) (c .before .before .before .text-fits .ensures) (not-false _ (c .before .before .if2 .left))

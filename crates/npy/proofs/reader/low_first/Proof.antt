@@ -3,7 +3,7 @@ use lib.ListN.{take}
 use denote.Ref.{now}
 use native.Mathlib.Nat.{sub-self}
 use Rattle.npy.specs.Header.{lowFirst}
-use Rattle.npy.specs.HeaderLaws.{low-more, low-none, low-all, byte-more, bytes-fit}
+use Rattle.npy.specs.HeaderLaws.{low-more, low-none, low-all, byte-more, low-fits}
 use mathlib.Core.Path.{_≡_, ap, _∙_}
 use Prim.Native.Nat.{ℕ, _≤_, _<_, _-_, _+_, _*_}
 use native.Mathlib.Omega.{arith}
@@ -24,7 +24,7 @@ sub-i : tie.Need-sub-i Inv-loop μ-loop
 sub-i c = omega arith
 
 mul-v : tie.Need-mul-v Inv-loop μ-loop
-mul-v c = omega (arith, bytes-fit _ _ _ (c .loop-test .taken) (c .before .before .before .pre) (c .before .loop .inv .1))
+mul-v c = omega (arith, low-fits _ _ _ (c .loop-test .taken) (c .before .before .before .pre) (c .before .loop .inv .1))
 
 byte-at-requires : tie.Need-byte-at-requires Inv-loop μ-loop
 byte-at-requires c κs = tt
@@ -33,7 +33,7 @@ wide-requires : tie.Need-wide-requires Inv-loop μ-loop
 wide-requires c κs = tt
 
 add-v : tie.Need-add-v Inv-loop μ-loop
-add-v c = omega (arith, bytes-fit _ _ _ (c .before .before .loop-test .taken) (c .before .before .before .before .before .pre) (c .before .before .before .loop .inv .1), c .wide .ensures)
+add-v c = omega (arith, low-fits _ _ _ (c .before .before .loop-test .taken) (c .before .before .before .before .before .pre) (c .before .before .before .loop .inv .1), c .wide .ensures)
 
 loop-less : tie.Need-loop-less Inv-loop μ-loop
 loop-less c = omega arith

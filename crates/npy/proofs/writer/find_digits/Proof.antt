@@ -3,12 +3,12 @@ use Prim.Native.Nat.{_*_, _-_, _≤_}
 use native.Mathlib.Omega.{arith}
 use lib.ListN.{length, drop, length-set}
 use lib.Seq.{sets}
-use Rattle.npy.specs.Digits.{digitsOf, digits-more, digits-done}
+use Rattle.npy.specs.Digits.{packedDigits, packed-more, packed-done}
 use Rattle.npy.proofs.writer.find_digits.Statement.{statement}
 use Rattle.npy.proofs.writer.find_digits.Tie as tie
 
 abbrev Inv-loop : tie.InvT-loop
-Inv-loop values digits₀ n i₀ digits i = (sets digits (2 * i) (digitsOf (drop i values)) ≡ sets digits₀ 0 (digitsOf values)) × (length digits ≡ length digits₀) × (i ≤ length values)
+Inv-loop values digits₀ n i₀ digits i = (sets digits (2 * i) (packedDigits (drop i values)) ≡ sets digits₀ 0 (packedDigits values)) × (length digits ≡ length digits₀) × (i ≤ length values)
 
 abbrev μ-loop : tie.MeasureT-loop
 μ-loop values digits₀ n i₀ digits i = length values - i
@@ -63,7 +63,7 @@ loop-again c =
     let bits = c .before .before in
     let test = bits .before .before in
     let at = test .before .loop in (
-      digits-more _ _ _ _ _ _ (test .loop-test .taken) (bits .to-bits .ensures) (c .before .four-digits .ensures) (c .four-digits2 .ensures) ∙ at .inv .0,
+      packed-more _ _ _ _ _ _ (test .loop-test .taken) (bits .to-bits .ensures) (c .before .four-digits .ensures) (c .four-digits2 .ensures) ∙ at .inv .0,
       simp length-set (at .inv .1),
       omega arith,
     )
@@ -72,7 +72,7 @@ same-length : tie.Need-same-length Inv-loop μ-loop
 same-length c = c .before .loop .inv .1
 
 returns : tie.Need-returns Inv-loop μ-loop
-returns c = digits-done _ _ _ (c .loop-test .left) ∙ c .before .loop .inv .0
+returns c = packed-done _ _ _ (c .loop-test .left) ∙ c .before .loop .inv .0
 
 pub find-digits-spec : {M : Type 1} → statement M
 find-digits-spec =

@@ -4,12 +4,12 @@ use native.Mathlib.Nat.{add-zero, sub-zero}
 use native.Mathlib.Omega.{arith}
 use lib.ListN.{length, drop, length-set}
 use lib.Seq.{sets, length-sets}
-use Rattle.npy.specs.Digits.{joined, joined-more, joined-done}
+use Rattle.npy.specs.Digits.{unpackedWords, unpacked-more, unpacked-done}
 use Rattle.npy.proofs.writer.join_digits.Statement.{statement}
 use Rattle.npy.proofs.writer.join_digits.Tie as tie
 
 abbrev Inv-loop : tie.InvT-loop
-Inv-loop digits n after out₀ at i₀ out i = (sets out (at + 9 * i) (joined after (n - i) (drop (2 * i) digits)) ≡ sets out₀ at (joined after n digits)) × (length out ≡ length out₀) × (i ≤ n)
+Inv-loop digits n after out₀ at i₀ out i = (sets out (at + 9 * i) (unpackedWords after (n - i) (drop (2 * i) digits)) ≡ sets out₀ at (unpackedWords after n digits)) × (length out ≡ length out₀) × (i ≤ n)
 
 abbrev μ-loop : tie.MeasureT-loop
 μ-loop digits n after out₀ at i₀ out i = n - i
@@ -71,7 +71,7 @@ loop-again c =
     let first = second .before .before .before .before .before in
     let test = first .before .before .before in
     let at = test .before .loop in (
-      joined-more _ _ _ _ _ _ _ _ (test .loop-test .taken) (first .put-four .ensures) (second .put-four2 .ensures) ∙ at .inv .0,
+      unpacked-more _ _ _ _ _ _ _ _ (test .loop-test .taken) (first .put-four .ensures) (second .put-four2 .ensures) ∙ at .inv .0,
       simp length-set (ap length (second .put-four2 .ensures) ∙ simp length-sets (ap length (first .put-four .ensures) ∙ simp length-sets (at .inv .1))),
       omega arith,
     )
@@ -80,7 +80,7 @@ same-length : tie.Need-same-length Inv-loop μ-loop
 same-length c = c .before .loop .inv .1
 
 returns : tie.Need-returns Inv-loop μ-loop
-returns c = joined-done _ _ _ _ _ _ (c .loop-test .left) ∙ c .before .loop .inv .0
+returns c = unpacked-done _ _ _ _ _ _ (c .loop-test .left) ∙ c .before .loop .inv .0
 
 pub join-digits-spec : {M : Type 1} → statement M
 join-digits-spec =

@@ -1,6 +1,6 @@
 use native.Mathlib.Omega.{arith}
 use borrow.Author.Needs.{needs}
-use Rattle.npy.specs.Digits.{joined-words}
+use Rattle.npy.specs.Digits.{unpacked-words}
 use Rattle.npy.proofs.writer.put_block.Statement.{statement}
 use Rattle.npy.proofs.writer.put_block.Tie as tie
 
@@ -19,7 +19,7 @@ same-length-2 c = search needs
 returns : tie.Need-returns
 returns c =
     let found = c .before .before .before .before .before .before .before .find-digits .ensures in
-    (found, joined-words _ _ _ _ _ _ _ (omega arith) found (c .before .before .join-digits .ensures))
+    (found, unpacked-words _ _ _ _ _ _ _ (omega arith) found (c .before .before .join-digits .ensures))
 
 pub put-block-spec : {M : Type 1} → statement M
 put-block-spec =

@@ -2,7 +2,7 @@ use native.Mathlib.Omega.{arith}
 use borrow.Author.Needs.{needs}
 use borrow.Author.Tests.{not-true, not-false}
 use Rattle.npy.specs.Word.{linesEnd, putLines}
-use Rattle.npy.specs.WordLaws.{lines-room, kept, written}
+use Rattle.npy.specs.WordLaws.{lines-room, unwritten, written}
 use Rattle.npy.proofs.writer.put_lines.Statement.{statement}
 use Rattle.npy.proofs.writer.put_lines.Tie as tie
 
@@ -11,7 +11,7 @@ lines-fit-requires c κs = search needs
 
 returns : tie.Need-returns
 unfolding linesEnd putLines
-returns c = kept _ _ _ _ (c .before .lines-fit .ensures) (not-true _ (c .if1 .taken))
+returns c = unwritten _ _ _ _ (c .before .lines-fit .ensures) (not-true _ (c .if1 .taken))
 
 put-rows-requires : tie.Need-put-rows-requires
 put-rows-requires c κs = lines-room _ _ _ _ _ (c .before .before .lines-fit .ensures) (not-false _ (c .before .if1 .left))
