@@ -1,4 +1,5 @@
--- And nothing else is: an accepted header is spelled as document 01 spells it. SpelledAccepted has the converse. Assumes nothing.
+-- Nothing but what document 01 spells is accepted: an accepted header is so framed, and its text is the header text of its parts.
+-- SpelledAccepted has the converse. Assumes nothing.
 use mathlib.Core.Path.{_≡_, refl, sym, _∙_, ap, subst}
 use mathlib.Core.List.{List, [], _∷_, _++_}
 use mathlib.Core.Bool.{Bool, true, false, cond, not, _&&_}
@@ -17,7 +18,7 @@ use Rattle.npy.specs.TextLaws.{lead-within, end-within, spelled-parts, n
 use Rattle.npy.specs.Header.{magic, isAccepted, textLength, lengthWidth, headerOf}
 use Rattle.npy.specs.HeaderLaws.{fits-parts}
 use Rattle.npy.specs.HeaderStart.{accepted-parts, textOf, data-place}
-use Rattle.npy.specs.Spelling.{allPass, HeaderParts, kind, kind-size, rows, rows-number, cols, cols-number, spaces, headerText, headerBytes, Framed, width, bytes, counts, short, sixteens, SpelledHeader, rest, parts, framed, is}
+use Rattle.npy.specs.Spelling.{allPass, HeaderParts, spaces, headerText, headerBytes, Framed, SpelledHeader}
 
 begins-is : (w s : List ℕ) → begins s w ≡ true → s ≡ w ++ drop (length w) s
 unfolding begins
@@ -146,7 +147,7 @@ module _ (t : List ℕ) (h : spelled t (placesOf t) ≡ true) where
       run-cut isDigit t (rowsAt t)
       ∙ ap (λ (m : List ℕ). rOf t ++ m) (begins-cut beforeCols t (rowsEnd t) (spelled-parts t h .parts) ∙ ap (λ (m : List ℕ). beforeCols ++ m) cols-split)
 
-  -- an accepted text is the print of its parts
+  -- an accepted text is the header text of its parts
   pub spelled-is-header-text : t ≡ headerText (xOf t) (rOf t) (cOf t) (spaceCount t)
   unfolding headerText kindEnd rowsAt
   spelled-is-header-text =
@@ -210,6 +211,8 @@ accepted-framed s h =
       },
       framed-start s (a .known) ∙ ap (λ (m : List ℕ). magic ++ (lengthWidth s / 2 ∷ 0 ∷ m)) (e8 ∙ ap (λ (m : List ℕ). take (lengthWidth s) (drop 8 s) ++ m) et),
     )
+
+-- ---- so it is spelled as document 01 spells it
 
 pub accepted-spelled : (s : List ℕ) → isAccepted (headerOf s) ≡ true → SpelledHeader s
 accepted-spelled s h =

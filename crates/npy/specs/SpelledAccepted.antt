@@ -15,8 +15,9 @@ use Rattle.npy.specs.Text.{begins, within, isKindByte, isDigit, isSpace,
 use Rattle.npy.specs.TextLaws.{number-size}
 use Rattle.npy.specs.Header.{lowFirst, magic, acceptedHead, textHead, textFits, textLength, headerW, lengthWidth, headerOf}
 use Rattle.npy.specs.HeaderStart.{begins-take, same-when-true}
-use Rattle.npy.specs.Spelling.{allPass, HeaderParts, spaces, headerText, headerBytes, Framed, rest}
+use Rattle.npy.specs.Spelling.{allPass, HeaderParts, spaces, headerText, headerBytes, Framed}
 
+-- ---- the text
 begins-own : (w l : List ℕ) → begins (w ++ l) w ≡ true
 unfolding begins
 begins-own [] l = refl
@@ -125,6 +126,8 @@ module _ (x r c : List ℕ) (n : ℕ) (p : HeaderParts x r c) where
       let o : colsEnd T - colsAt T ≡ length c = omega (arith, cols-end) in
       rw (header-text-spelled, k, m, o, at-x, at-rows, at-cols, kind-same, take-append-seam r, take-append-seam c)
 
+-- ---- the bytes before it
+
 eight-more : (n : ℕ) → leb 8 (suc (suc (suc (suc (suc (suc (suc (suc n)))))))) ≡ true
 eight-more n = le-leb 8 (suc (suc (suc (suc (suc (suc (suc (suc n)))))))) (omega arith)
 
@@ -166,6 +169,8 @@ module _ (w : ℕ) (l t rest : List ℕ) (f : Framed w l t) where
   framed-read =
       let a : 8 + w ≤ length S = omega (arith, long) in
       simp (version-width w (l ++ (t ++ rest)) (f .width), ne-eqb w 0 some-width, length-is, le-leb _ _ a, fits-there, at-text, take-append-seam)
+
+-- ---- so a header as document 01 spells it is accepted, for either width of the length, and says what its parts say
 
 pub spelled-accepted : (w : ℕ) (l x r c : List ℕ) (n : ℕ) (rest : List ℕ) → HeaderParts x r c → Framed w l (headerText x r c n)
     → headerOf (headerBytes w l (headerText x r c n) rest) ≡ acceptedHead (kindOf x (length x)) (decimal 0 r) (decimal 0 c) (8 + w + length (headerText x r c n))

@@ -42,6 +42,7 @@ pub record Framed (w : ℕ) (l t : List ℕ) : Type 0 where
   pub short : (1 ≤ length t) × (length t ≤ 1000)
   pub sixteens : (8 + w + length t) % 16 ≡ 0
 
+-- bytes that begin with a header as document 01 spells it, and the rest
 pub record SpelledHeader (s : List ℕ) : Type 0 where
   pub w : ℕ
   pub l : List ℕ

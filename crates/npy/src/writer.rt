@@ -4,8 +4,10 @@ ghost use Prim.Native.Nat.{_+_, _*_, _/_, _%_, _≤_, _<_};
 ghost use lib.ListN.{length};
 ghost use lib.Seq.{sets};
 ghost use Rattle.npy.specs.Header.{lowFirst};
-ghost use Rattle.npy.specs.Word.{wordsOf, linesOf, endLines, lineFits, lineEnd, putLine, linesFit, linesEnd, putLines};
-ghost use Rattle.npy.specs.Digits.{hexFour, packedDigits, lowBytes, unpackedWords};
+ghost use Rattle.npy.specs.LineMaking.{wordsOf, endLines};
+ghost use Rattle.npy.specs.Lines.{linesOf};
+ghost use Rattle.npy.specs.PutLines.{lineFits, lineEnd, putLine, linesFit, linesEnd, putLines};
+ghost use Rattle.npy.specs.PackedDigits.{hexFour, packedDigits, lowBytes, unpackedWords};
 
 // The lower 4 digits of v as the bytes of one number, the first digit lowest: all of them at once. First the two bytes of v stand apart,
 // then the four digits. 118 more sets the top bit of a byte where its digit is 10 or more, and of that bit less 1 a mask leaves 39, by

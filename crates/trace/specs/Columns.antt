@@ -19,8 +19,8 @@ use Rattle.npy.specs.declared.reader.Kind.{Kind}
 use Rattle.npy.specs.declared.reader.Kind.the-variants.{F4}
 use Rattle.npy.specs.Header.{cellWidth, headerOf}
 use Rattle.npy.specs.Cell.{cellOf, cellsOf}
-use Rattle.npy.specs.Word.{wordOf}
-use Rattle.npy.specs.WordLaws.{line-column}
+use Rattle.npy.specs.Lines.{wordOf}
+use Rattle.npy.specs.LinesLaws.{line-column}
 use Rattle.bank.specs.declared.lane.Op.{Op}
 use Rattle.bank.specs.declared.lane.Op.the-variants.{Update}
 use Rattle.bank.specs.declared.lane.Answer.{Answer}

@@ -2,8 +2,8 @@ use mathlib.Core.Path.{_≡_, refl, _∙_}
 use Prim.Native.Nat.{_+_, _*_, _≤_}
 use native.Mathlib.Omega.{arith}
 use lib.ListN.{length, length-set}
-use Rattle.npy.specs.Word.{endLines}
-use Rattle.npy.specs.WordLaws.{ends-more, ends-done, ends-room}
+use Rattle.npy.specs.LineMaking.{endLines}
+use Rattle.npy.specs.LineMakingLaws.{ends-more, ends-done, ends-room}
 use Rattle.npy.proofs.writer.end_lines.Statement.{statement}
 use Rattle.npy.proofs.writer.end_lines.Tie as tie
 

@@ -3,7 +3,7 @@ use Prim.Native.Nat.{_*_, _-_, _≤_}
 use native.Mathlib.Omega.{arith}
 use lib.ListN.{length, drop, length-set}
 use lib.Seq.{sets}
-use Rattle.npy.specs.Digits.{packedDigits, packed-more, packed-done}
+use Rattle.npy.specs.PackedDigits.{packedDigits, packed-more, packed-done}
 use Rattle.npy.proofs.writer.find_digits.Statement.{statement}
 use Rattle.npy.proofs.writer.find_digits.Tie as tie
 

@@ -1,6 +1,6 @@
 use native.Mathlib.Omega.{arith}
 use borrow.Author.Needs.{needs}
-use Rattle.npy.specs.Digits.{apart8, apart4-le, sum-fits, four-at-once}
+use Rattle.npy.specs.PackedDigits.{apart8, apart4-le, sum-fits, four-at-once}
 use Rattle.npy.proofs.writer.four_digits.Statement.{statement}
 use Rattle.npy.proofs.writer.four_digits.Tie as tie
 

@@ -4,7 +4,7 @@ use native.Mathlib.Nat.{add-zero, sub-zero}
 use native.Mathlib.Omega.{arith}
 use lib.ListN.{length, drop, length-set}
 use lib.Seq.{sets, length-sets}
-use Rattle.npy.specs.Digits.{unpackedWords, unpacked-more, unpacked-done}
+use Rattle.npy.specs.PackedDigits.{unpackedWords, unpacked-more, unpacked-done}
 use Rattle.npy.proofs.writer.join_digits.Statement.{statement}
 use Rattle.npy.proofs.writer.join_digits.Tie as tie
 

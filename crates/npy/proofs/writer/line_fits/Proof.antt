@@ -1,6 +1,6 @@
 use native.Mathlib.Omega.{arith}
-use Rattle.npy.specs.Word.{lineFits}
-use Rattle.npy.specs.WordLaws.{by-product}
+use Rattle.npy.specs.PutLines.{lineFits}
+use Rattle.npy.specs.PutLinesLaws.{by-product}
 use borrow.Author.Tests.{le-leb, lt-leb}
 use Rattle.npy.proofs.writer.line_fits.Statement.{statement}
 use Rattle.npy.proofs.writer.line_fits.Tie as tie

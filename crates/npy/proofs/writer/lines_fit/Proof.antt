@@ -1,7 +1,7 @@
 use borrow.Author.Needs.{needs}
 use borrow.Author.Tests.{eq-eqb, ne-eqb, lt-ltb}
 use native.Mathlib.Omega.{arith}
-use Rattle.npy.specs.Word.{linesFit}
+use Rattle.npy.specs.PutLines.{linesFit}
 use Rattle.npy.proofs.writer.lines_fit.Statement.{statement}
 use Rattle.npy.proofs.writer.lines_fit.Tie as tie
 

@@ -1,6 +1,6 @@
 use native.Mathlib.Omega.{arith}
 use borrow.Author.Needs.{needs}
-use Rattle.npy.specs.Digits.{unpacked-words}
+use Rattle.npy.specs.PackedDigits.{unpacked-words}
 use Rattle.npy.proofs.writer.put_block.Statement.{statement}
 use Rattle.npy.proofs.writer.put_block.Tie as tie
 

@@ -1,7 +1,7 @@
 use native.Mathlib.Omega.{arith}
 use lib.ListN.{length-set}
 use borrow.Author.Needs.{needs}
-use Rattle.npy.specs.Digits.{four-stored}
+use Rattle.npy.specs.PackedDigits.{four-stored}
 use Rattle.npy.proofs.writer.put_four.Statement.{statement}
 use Rattle.npy.proofs.writer.put_four.Tie as tie
 

@@ -1,5 +1,5 @@
 use borrow.Author.Needs.{needs}
-use Rattle.npy.specs.WordLaws.{line-alone}
+use Rattle.npy.specs.PutLinesLaws.{line-alone}
 use Rattle.npy.proofs.writer.put_line.Statement.{statement}
 use Rattle.npy.proofs.writer.put_line.Tie as tie
 

@@ -1,8 +1,8 @@
 use native.Mathlib.Omega.{arith}
 use borrow.Author.Needs.{needs}
 use borrow.Author.Tests.{not-true, not-false}
-use Rattle.npy.specs.Word.{linesEnd, putLines}
-use Rattle.npy.specs.WordLaws.{lines-room, unwritten, written}
+use Rattle.npy.specs.PutLines.{linesEnd, putLines}
+use Rattle.npy.specs.PutLinesLaws.{lines-room, unwritten, written}
 use Rattle.npy.proofs.writer.put_lines.Statement.{statement}
 use Rattle.npy.proofs.writer.put_lines.Tie as tie
 

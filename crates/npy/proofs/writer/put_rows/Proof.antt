@@ -1,6 +1,6 @@
 use native.Mathlib.Omega.{arith}
 use borrow.Author.Needs.{needs}
-use Rattle.npy.specs.WordLaws.{rows-of-one, rows-room, rows-ended}
+use Rattle.npy.specs.LineMakingLaws.{rows-of-one, rows-room, rows-ended}
 use Rattle.npy.proofs.writer.put_rows.Statement.{statement}
 use Rattle.npy.proofs.writer.put_rows.Tie as tie
 

@@ -5,8 +5,8 @@ use native.Mathlib.Omega.{arith}
 use lib.ListN.{length, drop, length-take, length-drop}
 use lib.Seq.{sets, length-sets}
 use borrow.Author.Needs.{needs}
-use Rattle.npy.specs.Word.{wordsOf}
-use Rattle.npy.specs.WordLaws.{words-more, words-done}
+use Rattle.npy.specs.LineMaking.{wordsOf}
+use Rattle.npy.specs.LineMakingLaws.{words-more, words-done}
 use Rattle.npy.proofs.writer.put_words.Statement.{statement}
 use Rattle.npy.proofs.writer.put_words.Tie as tie
 

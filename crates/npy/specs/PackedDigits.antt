@@ -14,8 +14,9 @@ use lib.Ieee as Ieee
 use lib.Ieee.{Float, nan, binary32}
 use borrow.Author.Tests.{ltb-true, ltb-false}
 use Rattle.npy.specs.Header.{lowFirst}
-use Rattle.npy.specs.Word.{hexOf, hexWord, wordOf, wordsOf}
-use Rattle.npy.specs.Fields.{fields, Below, halves, halves-below, halved, fields-and, fields-add, fields-mul, fields-same}
+use Rattle.npy.specs.Lines.{hexOf, hexWord, wordOf}
+use Rattle.npy.specs.LineMaking.{wordsOf}
+use Rattle.npy.specs.BitFields.{fields, Below, halves, halves-below, halved, fields-and, fields-add, fields-mul, fields-same}
 
 -- the lower 4 digits of a number
 unfoldable pub hexFour : ℕ → List ℕ

@@ -1,19 +1,16 @@
--- Laws of words and lines: words in parts, a line from words with spaces, its length and its columns. Assumes nothing.
+-- Lines made of words with spaces: words in parts, and a line feed in place of the last space of each line. Assumes nothing.
 use mathlib.Core.Path.{_≡_, refl, sym, ap, _∙_}
-use mathlib.Core.List.{List, [], _∷_, _++_, append-nil}
-use mathlib.Core.Bool.{Bool, true, false, cond, _&&_}
+use mathlib.Core.List.{List, [], _∷_, _++_}
 use Prim.Native.Nat.{ℕ, zero, suc, _+_, _-_, _*_, _/_, _%_, _≤_, _<_}
-use native.Mathlib.Nat.{zero-mul, suc-mul, mul-left-comm, mod-self, div-one, div-self, div-add-mod'}
+use native.Mathlib.Nat.{zero-mul, suc-mul, mul-left-comm, div-one, div-add-mod'}
 use native.Mathlib.Omega.{arith}
-use lib.ListN.{length, getD, set, take, drop, drop-of-length-le, length-drop, take-append-drop}
-use lib.Seq.{drop-drop, length-take-le, set-comm, set-set, sets, take-length}
-use lib.Dec.{eqb, ltb, leb}
-use lib.Ieee as Ieee
-use lib.Ieee.{Float, nan}
-use borrow.Author.Tests.{lt-ltb, le-leb, lt-leb, leb-true, leb-false, ltb-true, eqb-true}
-use Rattle.lemmas.specs.Cases.{and-left, and-right}
+use lib.ListN.{length, set, take, drop, drop-of-length-le, length-drop, take-append-drop}
+use lib.Seq.{drop-drop, length-take-le, set-comm, set-set, sets}
+use lib.Ieee.{Float}
 use Rattle.lemmas.specs.Lists.{sets-append}
-use Rattle.npy.specs.Word.{hexOf, hexWord, wordOf, afterWord, lineOf, wordsOf, endLines, lineFits, lineEnd, putLine, linesOf, linesFit, linesEnd, putLines}
+use Rattle.npy.specs.Lines.{hexWord, wordOf, afterWord, lineOf, linesOf}
+use Rattle.npy.specs.LineMaking.{wordsOf, endLines}
+use Rattle.npy.specs.LinesLaws.{line-length}
 
 -- ---- stores one after the other
 
@@ -61,12 +58,6 @@ unfolding wordsOf
 words-done v l after o i h = rw (drop-of-length-le v h)
 
 -- ---- lines
-
--- a word and what follows it take 9 bytes
-pub line-length : (v : List Float) → length (lineOf v) ≡ 9 * length v
-unfolding lineOf wordOf hexWord
-line-length [] = refl
-line-length (x ∷ v) = let h = line-length v in omega arith
 
 -- a line is its words with spaces, and a line feed in place of the last one
 line-ended : (v w : List Float) (l : List ℕ) (o : ℕ) → 0 < length v → set (sets l o (wordsOf 32 (v ++ w))) (o + 9 * length v - 1) 10 ≡ sets l o (lineOf v ++ wordsOf 32 w)
@@ -138,64 +129,3 @@ ends-room zero w o len h r = absurd (omega arith)
 ends-room (suc left) w o len h r =
     let a : suc left - 1 ≡ left = omega arith in
     rw a (omega (arith, suc-mul left w))
-
--- ---- what fits
-
-line-room : (at n len : ℕ) (b : Bool) → b ≡ lineFits at n len → b ≡ true → at + 9 * n ≤ len
-unfolding lineFits
-line-room at n len b e h =
-    let t : (leb at len && leb n ((len - at) / 9)) ≡ true = sym e ∙ h in
-    let p : at ≤ len = leb-true _ _ (and-left (leb at len) (leb n ((len - at) / 9)) t) in
-    let q : n ≤ (len - at) / 9 = leb-true _ _ (and-right (leb at len) (leb n ((len - at) / 9)) t) in
-    omega arith
-
--- what is left where a test refuses, and where it does not
-pub unwritten : {b fits : Bool} (at end : ℕ) (l m : List ℕ) → b ≡ fits → b ≡ false → (at ≡ cond fits end at) × (l ≡ cond fits m l)
-unwritten at end l m e h = let t = sym e ∙ h in (rw t, rw t)
-
-pub written : {b fits : Bool} (at end : ℕ) (l m w : List ℕ) → b ≡ fits → b ≡ true → w ≡ m → (end ≡ cond fits end at) × (w ≡ cond fits m l)
-written at end l m w e h g = let t = sym e ∙ h in (rw t, g ∙ rw t)
-
-cond-same {ℓ} : {A : Type ℓ} (t : Bool) (a : A) → a ≡ cond t a a
-cond-same true a = refl
-cond-same false a = refl
-
-pub lines-room : (at k n len : ℕ) (b : Bool) → b ≡ linesFit at k n len → b ≡ true → (1 ≤ k) × (n % k ≡ 0) × (at + 9 * n ≤ len)
-unfolding linesFit
-lines-room at k n len b e h =
-    let t : (ltb 0 k && (eqb (n % k) 0 && lineFits at n len)) ≡ true = sym e ∙ h in
-    let u = and-right (ltb 0 k) (eqb (n % k) 0 && lineFits at n len) t in
-    (ltb-true _ _ (and-left (ltb 0 k) (eqb (n % k) 0 && lineFits at n len) t), eqb-true _ _ (and-left (eqb (n % k) 0) (lineFits at n len) u), line-room at n len _ refl (and-right (eqb (n % k) 0) (lineFits at n len) u))
-
--- a row alone is rows of its length
-pub line-alone : (at r : ℕ) (v : List Float) (l m : List ℕ) → (r ≡ linesEnd at (length v) (length v) (length l)) × (m ≡ putLines l at (length v) v)
-    → (r ≡ lineEnd at (length v) (length l)) × (m ≡ putLine l at v)
-unfolding linesEnd lineEnd putLines putLine linesFit linesOf lineOf
-line-alone at r [] l m h = let p : at + 9 * 0 ≡ at = omega arith in (h .0 ∙ rw p (cond-same (lineFits at 0 (length l)) at), h .1 ∙ cond-same (lineFits at 0 (length l)) l)
-line-alone at r (x ∷ v) l m h =
-    let n = suc (length v) in
-    let t : ltb 0 n ≡ true = lt-ltb 0 n (omega arith) in
-    let one : n / n ≡ suc zero = div-self {n = n} (omega arith) in
-    (h .0 ∙ rw (mod-self n, t), h .1 ∙ rw (mod-self n, t, one, take-length v, append-nil))
-
--- a line's columns: the word of value i stands at 9 · i, whatever follows the line
-pub line-column : (v : List Float) (i : ℕ) (rest : List ℕ) → i < length v → take 8 (drop (9 * i) (lineOf v ++ rest)) ≡ wordOf (getD v i nan)
-unfolding lineOf wordOf hexWord
-line-column [] i rest h = absurd (omega arith)
-line-column (x ∷ v) zero rest h = refl
-line-column (x ∷ v) (suc i) rest h =
-    let e : 9 * suc i ≡ suc (suc (suc (suc (suc (suc (suc (suc (suc (9 * i))))))))) = omega arith in
-    rw e (line-column v i rest (omega arith))
-
--- 7fc00000
-pub nan-word : wordOf nan ≡ 55 ∷ 102 ∷ 99 ∷ 48 ∷ 48 ∷ 48 ∷ 48 ∷ 48 ∷ []
-unfolding wordOf hexWord hexOf Ieee.toBits
-nan-word = refl
-
--- a quotient by 9 compared, by a product
-pub by-product : (n m : ℕ) → leb (n * 9) m ≡ leb n (m / 9)
-by-product n m = go (leb n (m / 9)) refl
-  where
-    go : (t : Bool) → leb n (m / 9) ≡ t → leb (n * 9) m ≡ t
-    go true e = le-leb (n * 9) m (let h : n ≤ m / 9 = leb-true n (m / 9) e in omega arith)
-    go false e = lt-leb (n * 9) m (let h : m / 9 < n = leb-false n (m / 9) e in omega arith)
