@@ -23,8 +23,8 @@ use Rattle.bank.specs.Runs.{after}
 use Rattle.bank.specs.Single.{one}
 use Rattle.bank.specs.RunLaws.{Lies, after-eight}
 use Rattle.rows.specs.Rows.{firstRefusal}
-use Rattle.rows.specs.ColumnsLaws.{own-turn}
-use Rattle.rows.specs.Ready.{first-ready, first-kept}
+use Rattle.rows.specs.LaneByLaneLaws.{own-turn}
+use Rattle.rows.specs.ReadyLanes.{first-ready, first-kept}
 use Rattle.trace.specs.declared.course.Course.{Course}
 use Rattle.trace.specs.Trace.{startOf, replayRefusal, rowWidth, rowCalls, rowOn, onRows, formRefusal, rowRefusal, courseRefusal}
 use Rattle.trace.specs.Taken.{CanTake, row-count, width-on, rows-cut, spent-rest, spent-row, on-left, on-width}
