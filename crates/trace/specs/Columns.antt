@@ -33,17 +33,17 @@ use Rattle.bank.specs.RunLaws.{Lies, lies-run, lies-after, fresh-lies}
 use Rattle.rows.specs.Rows.{nextLane, updateCalls, valuesOf}
 use Rattle.rows.specs.RowsLaws.{values-length}
 use Rattle.trace.specs.declared.course.Course.{Course}
-use Rattle.trace.specs.Turns.{inTurn, each, lane-of, each-length, each-at, lane-of-each}
-use Rattle.trace.specs.Trace.{openOf, openedBank, startOf, replayOf, rowWidth, rowCalls, rowLine, rowOn, nextRows}
+use Rattle.trace.specs.LanesInTurn.{inTurn, readEach, lane-of, each-length, each-at, lane-of-each}
+use Rattle.trace.specs.Trace.{openOf, openedBank, startOf, replayOf, rowWidth, rowCalls, rowLine, afterRow, rowLines}
 use Rattle.trace.specs.Taken.{updateOf, calls-more, row-length, row-count, CanTake, text-cut}
-use Rattle.trace.specs.TraceLaws.{started, rowsOf, accepted-lines, Accepted}
+use Rattle.trace.specs.TraceLaws.{accepted-start, bytesAfterStart, accepted-lines, AcceptedFile}
 
 -- ---- the calls of a file
 
 -- a row's calls are its lanes' updates in turn
 pub updates-turn : (kind : Kind) (k n lane : ℕ) (s : List ℕ) → lane + n ≡ k
-    → updateCalls k lane (cellsOf kind (n * 3) s) ≡ inTurn lane (each (updateOf kind) (3 * cellWidth kind) n s)
-unfolding inTurn each updateCalls cellsOf nextLane
+    → updateCalls k lane (cellsOf kind (n * 3) s) ≡ inTurn lane (readEach (updateOf kind) (3 * cellWidth kind) n s)
+unfolding inTurn readEach updateCalls cellsOf nextLane
 updates-turn kind k zero lane s e = refl
 updates-turn kind k (suc zero) lane s e = calls-more kind k lane 0 s
 updates-turn kind k (suc (suc n)) lane s e =
@@ -65,11 +65,11 @@ run-turn [] b lane = refl
 run-turn (op ∷ ops) b lane =
     ap (λ (l : List (For Answer)). for lane (callBank b lane op .answer) ∷ l) (run-turn ops (callBank b lane op .bank) (suc lane))
 
-pub value-at : (xs : List (For Answer)) (i : ℕ) (d : Answer) → i < length xs → getD (valuesOf xs) i nan ≡ getD (things xs) i d .y
+pub value-of-answer : (xs : List (For Answer)) (i : ℕ) (d : Answer) → i < length xs → getD (valuesOf xs) i nan ≡ getD (things xs) i d .y
 unfolding valuesOf things
-value-at [] i d h = absurd (omega arith)
-value-at (x ∷ xs) zero d h = refl
-value-at (x ∷ xs) (suc i) d h = value-at xs i d (omega arith)
+value-of-answer [] i d h = absurd (omega arith)
+value-of-answer (x ∷ xs) zero d h = refl
+value-of-answer (x ∷ xs) (suc i) d h = value-of-answer xs i d (omega arith)
 
 pub things-length : {A : Type 0} (xs : List (For A)) → length (things xs) ≡ length xs
 unfolding things
@@ -87,20 +87,20 @@ answered-at b calls ops e L d h =
 -- ---- one controller
 
 -- the values that it answers
-unfoldable pub column : Single → List Op → List Float
-column c [] = []
-column c (op ∷ ops) = callSingle c op .answer .y ∷ column (callSingle c op .single) ops
+unfoldable pub singleValues : Single → List Op → List Float
+singleValues c [] = []
+singleValues c (op ∷ ops) = callSingle c op .answer .y ∷ singleValues (callSingle c op .single) ops
 
 -- they depend on the calls so far
-pub column-same : (r : ℕ) (c : Single) (ops other : List Op) (d : Op) → r < length ops → r < length other
-    → ((q : ℕ) → q ≤ r → getD ops q d ≡ getD other q d) → getD (column c ops) r nan ≡ getD (column c other) r nan
-unfolding column
-column-same r c [] other d h g e = absurd (omega arith)
-column-same r c (op ∷ ops) [] d h g e = absurd (omega arith)
-column-same zero c (op ∷ ops) (o ∷ other) d h g e = let s : op ≡ o = e 0 (omega arith) in rw s
-column-same (suc r) c (op ∷ ops) (o ∷ other) d h g e =
+pub single-values-same : (r : ℕ) (c : Single) (ops other : List Op) (d : Op) → r < length ops → r < length other
+    → ((q : ℕ) → q ≤ r → getD ops q d ≡ getD other q d) → getD (singleValues c ops) r nan ≡ getD (singleValues c other) r nan
+unfolding singleValues
+single-values-same r c [] other d h g e = absurd (omega arith)
+single-values-same r c (op ∷ ops) [] d h g e = absurd (omega arith)
+single-values-same zero c (op ∷ ops) (o ∷ other) d h g e = let s : op ≡ o = e 0 (omega arith) in rw s
+single-values-same (suc r) c (op ∷ ops) (o ∷ other) d h g e =
     let s : op ≡ o = e 0 (omega arith) in
-    rw s (column-same r (callSingle c o .single) ops other d (omega arith) (omega arith) (λ (q : ℕ) (l : q ≤ r). e (suc q) (omega arith)))
+    rw s (single-values-same r (callSingle c o .single) ops other d (omega arith) (omega arith) (λ (q : ℕ) (l : q ≤ r). e (suc q) (omega arith)))
 
 -- ---- a row
 
@@ -108,7 +108,7 @@ column-same (suc r) c (op ∷ ops) (o ∷ other) d h g e =
 unfoldable pub laneUpdate : Kind → ℕ → List ℕ → Op
 laneUpdate kind L s = updateOf kind (drop (L * (3 * cellWidth kind)) s)
 
-pub row-turn : (c : Course) (s : List ℕ) → rowCalls c s ≡ inTurn 0 (each (updateOf (c .kind)) (3 * cellWidth (c .kind)) (c .lanes) s)
+pub row-turn : (c : Course) (s : List ℕ) → rowCalls c s ≡ inTurn 0 (readEach (updateOf (c .kind)) (3 * cellWidth (c .kind)) (c .lanes) s)
 unfolding rowCalls
 row-turn c s = updates-turn (c .kind) (c .lanes) (c .lanes) 0 s (zero-add (c .lanes))
 
@@ -128,7 +128,7 @@ row-value c s L σ h l lies =
     let told : ofLane L (run b (rowCalls c s)) ≡ getD (things (run b (rowCalls c s))) L d ∷ [] = answered-at b (rowCalls c s) _ (row-turn c s) L d (omega arith) in
     let heard : ofLane L (run b (rowCalls c s)) ≡ callSingle σ op .answer ∷ [] = lies-run L h (rowCalls c s) b σ lies ∙ ap (singleRun σ) (row-of-lane c s L l) in
     let same : getD (things (run b (rowCalls c s))) L d ≡ callSingle σ op .answer = cc in
-    value-at (run b (rowCalls c s)) L d (omega arith) ∙ ap (λ (a : Answer). a .y) same
+    value-of-answer (run b (rowCalls c s)) L d (omega arith) ∙ ap (λ (a : Answer). a .y) same
 
 -- and after it its controller is updated
 pub row-lies : (c : Course) (s : List ℕ) (L : ℕ) (σ : Single) → L ≤ 7 → L < c .lanes → Lies L (c .bank) σ
@@ -141,12 +141,12 @@ row-lies c s L σ h l lies =
 
 -- the updates of lane L in n rows of k lanes
 unfoldable pub laneUpdates : Kind → ℕ → ℕ → ℕ → List ℕ → List Op
-laneUpdates kind k L n s = each (laneUpdate kind L) (k * 3 * cellWidth kind) n s
+laneUpdates kind k L n s = readEach (laneUpdate kind L) (k * 3 * cellWidth kind) n s
 
 -- the digits of lane L in row r are those of its controller's r-th value
 pub rows-word : (r n : ℕ) (c : Course) (s : List ℕ) (L : ℕ) (σ : Single) (rest : List ℕ) → r < n → L ≤ 7 → L < c .lanes → Lies L (c .bank) σ
-    → take 8 (drop (r * (9 * c .lanes) + 9 * L) (nextRows n c s ++ rest)) ≡ wordOf (getD (column σ (laneUpdates (c .kind) (c .lanes) L n s)) r nan)
-unfolding nextRows rowLine rowOn rowWidth laneUpdates each column
+    → take 8 (drop (r * (9 * c .lanes) + 9 * L) (rowLines n c s ++ rest)) ≡ wordOf (getD (singleValues σ (laneUpdates (c .kind) (c .lanes) L n s)) r nan)
+unfolding rowLines rowLine afterRow rowWidth laneUpdates readEach singleValues
 rows-word r zero c s L σ rest h a l lies = absurd (omega arith)
 rows-word zero (suc n) c s L σ rest h a l lies =
     let len : length (valuesOf (run (c .bank) (rowCalls c s))) ≡ c .lanes = values-length (c .bank) (rowCalls c s) ∙ row-count c s in
@@ -155,7 +155,7 @@ rows-word zero (suc n) c s L σ rest h a l lies =
 rows-word (suc r) (suc n) c s L σ rest h a l lies =
     let e : suc r * (9 * c .lanes) + 9 * L ≡ length (rowLine c s) + (r * (9 * c .lanes) + 9 * L) = omega (arith, suc-mul r (9 * c .lanes), row-length c s) in
     rw (e, append-assoc, drop-append-add)
-    (rows-word r n (rowOn c (c .left - 1) s) (drop (rowWidth c) s) L (callSingle σ (laneUpdate (c .kind) L s) .single) rest (omega arith) a l (row-lies c s L σ a l lies))
+    (rows-word r n (afterRow c (c .left - 1) s) (drop (rowWidth c) s) L (callSingle σ (laneUpdate (c .kind) L s) .single) rest (omega arith) a l (row-lies c s L σ a l lies))
 
 -- ---- cells by their row and column
 
@@ -163,25 +163,25 @@ rows-word (suc r) (suc n) c s L σ rest h a l lies =
 unfoldable pub cellAt : Kind → ℕ → List ℕ → ℕ → ℕ → Float
 cellAt kind cols s row col = cellOf kind (drop ((row * cols + col) * cellWidth kind) s)
 
-place : (r k L c j w : ℕ) → r * (k * w) + L * (c * w) + j * w ≡ (r * k + (L * c + j)) * w
-place r k L c j w = simp (add-mul, mul-assoc, add-assoc)
+place-sum : (r k L c j w : ℕ) → r * (k * w) + L * (c * w) + j * w ≡ (r * k + (L * c + j)) * w
+place-sum r k L c j w = simp (add-mul, mul-assoc, add-assoc)
 
 cell-place : (kind : Kind) (k L c r j : ℕ) (s : List ℕ)
     → cellOf kind (drop (j * cellWidth kind) (drop (L * (c * cellWidth kind)) (drop (r * (k * cellWidth kind)) s))) ≡ cellAt kind k s r (L * c + j)
 unfolding cellAt
 cell-place kind k L c r j s =
-    rw (drop-drop (L * (c * cellWidth kind)) (r * (k * cellWidth kind)) s, drop-drop (j * cellWidth kind) _ s, place r k L c j (cellWidth kind))
+    rw (drop-drop (L * (c * cellWidth kind)) (r * (k * cellWidth kind)) s, drop-drop (j * cellWidth kind) _ s, place-sum r k L c j (cellWidth kind))
 
 -- lane L's update in row r
-unfoldable pub updateAt : Kind → ℕ → List ℕ → ℕ → ℕ → Op
-updateAt kind k s L r = Update (cellAt kind (k * 3) s r (L * 3 + 0)) (cellAt kind (k * 3) s r (L * 3 + 1)) (cellAt kind (k * 3) s r (L * 3 + 2))
+unfoldable pub laneUpdateAt : Kind → ℕ → List ℕ → ℕ → ℕ → Op
+laneUpdateAt kind k s L r = Update (cellAt kind (k * 3) s r (L * 3 + 0)) (cellAt kind (k * 3) s r (L * 3 + 1)) (cellAt kind (k * 3) s r (L * 3 + 2))
 
 updates-length : (kind : Kind) (k L n : ℕ) (s : List ℕ) → length (laneUpdates kind k L n s) ≡ n
 unfolding laneUpdates
 updates-length kind k L n s = each-length (laneUpdate kind L) (k * 3 * cellWidth kind) n s
 
-pub updates-at : (kind : Kind) (k L n : ℕ) (s : List ℕ) (r : ℕ) (d : Op) → r < n → getD (laneUpdates kind k L n s) r d ≡ updateAt kind k s L r
-unfolding laneUpdates laneUpdate updateOf updateAt
+pub updates-at : (kind : Kind) (k L n : ℕ) (s : List ℕ) (r : ℕ) (d : Op) → r < n → getD (laneUpdates kind k L n s) r d ≡ laneUpdateAt kind k s L r
+unfolding laneUpdates laneUpdate updateOf laneUpdateAt
 updates-at kind k L n s r d h =
     let w = cellWidth kind in
     let e0 : 0 * w ≡ 0 = zero-mul w in
@@ -208,7 +208,7 @@ opened-single s L =
 pub opened-lies : (k : ℕ) (s : List ℕ) (L : ℕ) → k ≤ 8 → L < k → Lies L (openedBank k s) (controllerAt s L)
 unfolding openedBank
 opened-lies k s L h l =
-    let calls = inTurn 0 (each openOf 20 k s) in
+    let calls = inTurn 0 (readEach openOf 20 k s) in
     let own : ofLane L calls ≡ openOf (drop (L * 20) s) ∷ [] = lane-of-each openOf 20 k s L l in
     let low : L ≤ 7 = omega arith in
     subst (λ (σ : Single). Lies L (after freshBank calls) σ) (ap (singleAfter none) own ∙ opened-single s L) (lies-after L low calls freshBank none (fresh-lies L low))
@@ -226,68 +226,68 @@ abbrev pub cellKindOf : List ℕ → Kind
 cellKindOf s = startOf s .course .kind
 
 -- the digits of lane L in row r of what a file prints
-unfoldable pub printed : List ℕ → ℕ → ℕ → List ℕ
-printed s L r = take 8 (drop (r * (9 * lanesOf s) + 9 * L) (replayOf s))
+unfoldable pub printedWord : List ℕ → ℕ → ℕ → List ℕ
+printedWord s L r = take 8 (drop (r * (9 * lanesOf s) + 9 * L) (replayOf s))
 
 -- they are those of the r-th value of one controller that is made with the lane's settings and updated with the lane's cells
-pub column-theorem : (s : List ℕ) (m L r : ℕ) → passes (startOf s .refusal) ≡ true → CanTake m (startOf s .course) (rowsOf s) → L < lanesOf s → r < m
-    → printed s L r ≡ wordOf (getD (column (controllerAt (settingsOf s) L) (laneUpdates (cellKindOf s) (lanesOf s) L m (rowsOf s))) r nan)
-unfolding printed
+pub column-theorem : (s : List ℕ) (m L r : ℕ) → passes (startOf s .refusal) ≡ true → CanTake m (startOf s .course) (bytesAfterStart s) → L < lanesOf s → r < m
+    → printedWord s L r ≡ wordOf (getD (singleValues (controllerAt (settingsOf s) L) (laneUpdates (cellKindOf s) (lanesOf s) L m (bytesAfterStart s))) r nan)
+unfolding printedWord
 column-theorem s m L r e w l h =
-    let g = started s e in
+    let g = accepted-start s e in
     let few : lanesOf s ≤ 8 = rw (g .lanes) (g .settings .few) in
     let own : L < headerOf s .rows = rw (g .lanes) at l in
     let lies : Lies L (startOf s .course .bank) (controllerAt (settingsOf s) L) = rw (g .bank) (opened-lies (headerOf s .rows) (settingsOf s) L (g .settings .few) own) in
-    rw (accepted-lines s m e w) (rows-word r m (startOf s .course) (rowsOf s) L (controllerAt (settingsOf s) L) _ h (omega arith) l lies)
+    rw (accepted-lines s m e w) (rows-word r m (startOf s .course) (bytesAfterStart s) L (controllerAt (settingsOf s) L) _ h (omega arith) l lies)
 
 -- two files have the same lane L: as many lanes, cells of one kind, equal settings of lane L, and in the first n rows equal cells of it
 pub record SameLane (s t : List ℕ) (L n : ℕ) : Type 0 where
   pub lanes : lanesOf s ≡ lanesOf t
   pub kind : cellKindOf s ≡ cellKindOf t
   pub settings : (j : ℕ) → j < 5 → cellAt F4 5 (settingsOf s) L j ≡ cellAt F4 5 (settingsOf t) L j
-  pub cells : (r j : ℕ) → r < n → j < 3 → cellAt (cellKindOf s) (lanesOf s * 3) (rowsOf s) r (L * 3 + j) ≡ cellAt (cellKindOf t) (lanesOf t * 3) (rowsOf t) r (L * 3 + j)
+  pub cells : (r j : ℕ) → r < n → j < 3 → cellAt (cellKindOf s) (lanesOf s * 3) (bytesAfterStart s) r (L * 3 + j) ≡ cellAt (cellKindOf t) (lanesOf t * 3) (bytesAfterStart t) r (L * 3 + j)
 
 same-controller : (s t : List ℕ) (L n : ℕ) → SameLane s t L n → controllerAt (settingsOf s) L ≡ controllerAt (settingsOf t) L
 unfolding controllerAt
 same-controller s t L n e =
     rw (e .settings 0 (omega arith), e .settings 1 (omega arith), e .settings 2 (omega arith), e .settings 3 (omega arith), e .settings 4 (omega arith))
 
-same-update : (s t : List ℕ) (L n r : ℕ) → SameLane s t L n → r < n → updateAt (cellKindOf s) (lanesOf s) (rowsOf s) L r ≡ updateAt (cellKindOf t) (lanesOf t) (rowsOf t) L r
-unfolding updateAt
+same-update : (s t : List ℕ) (L n r : ℕ) → SameLane s t L n → r < n → laneUpdateAt (cellKindOf s) (lanesOf s) (bytesAfterStart s) L r ≡ laneUpdateAt (cellKindOf t) (lanesOf t) (bytesAfterStart t) L r
+unfolding laneUpdateAt
 same-update s t L n r e h = rw (e .cells r 0 h (omega arith), e .cells r 1 h (omega arith), e .cells r 2 h (omega arith))
 
 -- then they print equal digits for it in each of these rows that can be taken of both, however the files end
 pub same-column : (s t : List ℕ) (L n m k r : ℕ) → passes (startOf s .refusal) ≡ true → passes (startOf t .refusal) ≡ true
-    → CanTake m (startOf s .course) (rowsOf s) → CanTake k (startOf t .course) (rowsOf t) → L < lanesOf s → SameLane s t L n → r < n → r < m → r < k
-    → printed s L r ≡ printed t L r
+    → CanTake m (startOf s .course) (bytesAfterStart s) → CanTake k (startOf t .course) (bytesAfterStart t) → L < lanesOf s → SameLane s t L n → r < n → r < m → r < k
+    → printedWord s L r ≡ printedWord t L r
 same-column s t L n m k r es et ws wt l e hn hm hk =
     column-theorem s m L r es ws l hm
-    ∙ ap wordOf (rw (same-controller s t L n e) (column-same r (controllerAt (settingsOf t) L) ops other d (omega (arith, ol)) (omega (arith, rl)) same))
+    ∙ ap wordOf (rw (same-controller s t L n e) (single-values-same r (controllerAt (settingsOf t) L) ops other d (omega (arith, ol)) (omega (arith, rl)) same))
     ∙ sym (column-theorem t k L r et wt (rw (e .lanes) at l) hk)
   where
     d : Op
-    d = updateAt (cellKindOf s) (lanesOf s) (rowsOf s) L r
+    d = laneUpdateAt (cellKindOf s) (lanesOf s) (bytesAfterStart s) L r
 
     ops : List Op
-    ops = laneUpdates (cellKindOf s) (lanesOf s) L m (rowsOf s)
+    ops = laneUpdates (cellKindOf s) (lanesOf s) L m (bytesAfterStart s)
 
     other : List Op
-    other = laneUpdates (cellKindOf t) (lanesOf t) L k (rowsOf t)
+    other = laneUpdates (cellKindOf t) (lanesOf t) L k (bytesAfterStart t)
 
     ol : length ops ≡ m
-    ol = updates-length (cellKindOf s) (lanesOf s) L m (rowsOf s)
+    ol = updates-length (cellKindOf s) (lanesOf s) L m (bytesAfterStart s)
 
     rl : length other ≡ k
-    rl = updates-length (cellKindOf t) (lanesOf t) L k (rowsOf t)
+    rl = updates-length (cellKindOf t) (lanesOf t) L k (bytesAfterStart t)
 
     same : (q : ℕ) → q ≤ r → getD ops q d ≡ getD other q d
     same q h =
-        updates-at (cellKindOf s) (lanesOf s) L m (rowsOf s) q d (omega arith)
+        updates-at (cellKindOf s) (lanesOf s) L m (bytesAfterStart s) q d (omega arith)
         ∙ same-update s t L n q e (omega arith)
-        ∙ sym (updates-at (cellKindOf t) (lanesOf t) L k (rowsOf t) q d (omega arith))
+        ∙ sym (updates-at (cellKindOf t) (lanesOf t) L k (bytesAfterStart t) q d (omega arith))
 
 -- document 01: two accepted files with equal shapes, kind, lane L settings and lane L cells give equal L columns
-pub equal-columns : (s t : List ℕ) (L : ℕ) → Accepted s → Accepted t → startOf s .course .left ≡ startOf t .course .left → L < lanesOf s
-    → SameLane s t L (startOf s .course .left) → (r : ℕ) → r < startOf s .course .left → printed s L r ≡ printed t L r
+pub equal-columns : (s t : List ℕ) (L : ℕ) → AcceptedFile s → AcceptedFile t → startOf s .course .left ≡ startOf t .course .left → L < lanesOf s
+    → SameLane s t L (startOf s .course .left) → (r : ℕ) → r < startOf s .course .left → printedWord s L r ≡ printedWord t L r
 equal-columns s t L a b same l e r h =
-    same-column s t L (startOf s .course .left) (startOf s .course .left) (startOf t .course .left) r (a .start) (b .start) (a .rows) (b .rows) l e h h (omega arith)
+    same-column s t L (startOf s .course .left) (startOf s .course .left) (startOf t .course .left) r (a .start-passes) (b .start-passes) (a .rows) (b .rows) l e h h (omega arith)

@@ -10,7 +10,7 @@ use lib.ListN.{length, getD, set, drop, drop-of-length-le}
 use lib.Seq.{sets, drop-cons}
 use Rattle.refusal.specs.declared.Refusal.{Refusal}
 use Rattle.refusal.specs.Refusal.{numberOf, passes}
-use Rattle.trace.specs.Trace.{digits, refusedWord, refusedLine, reasonText}
+use Rattle.trace.specs.Trace.{inDecimal, refusedWord, refusedLine, reasonText}
 use Rattle.trace.specs.Slices.{wrote, wroteCount}
 
 -- ---- a text written byte by byte
@@ -37,27 +37,27 @@ module _ (out text : List ℕ) where
 -- ---- `refused N`
 
 pub one-digit : (why : Refusal) (n : ℕ) → n ≡ numberOf why → n < 10 → refusedLine why ≡ refusedWord ++ ((n + 48) ∷ 10 ∷ [])
-unfolding refusedLine digits
+unfolding refusedLine inDecimal
 one-digit why n e h = rw (← e, lt-ltb n 10 h)
 
 pub two-digits : (why : Refusal) (n : ℕ) → n ≡ numberOf why → 10 ≤ n → refusedLine why ≡ refusedWord ++ ((n / 10 + 48) ∷ (n % 10 + 48) ∷ 10 ∷ [])
-unfolding refusedLine digits
+unfolding refusedLine inDecimal
 two-digits why n e h = rw (← e, le-ltb n 10 h)
 
 module _ (why : Refusal) (n : ℕ) (e : n ≡ numberOf why) (out : List ℕ) where
-  pub one-short : n < 10 → length out < 10 → (0 ≡ wroteCount out (refusedLine why)) × (out ≡ wrote out (refusedLine why))
-  one-short h g = rw (one-digit why n e h) (wrote-none out (refusedWord ++ ((n + 48) ∷ 10 ∷ [])) g)
+  pub one-digit-short : n < 10 → length out < 10 → (0 ≡ wroteCount out (refusedLine why)) × (out ≡ wrote out (refusedLine why))
+  one-digit-short h g = rw (one-digit why n e h) (wrote-none out (refusedWord ++ ((n + 48) ∷ 10 ∷ [])) g)
 
-  pub two-short : 10 ≤ n → length out < 11 → (0 ≡ wroteCount out (refusedLine why)) × (out ≡ wrote out (refusedLine why))
-  two-short h g = rw (two-digits why n e h) (wrote-none out (refusedWord ++ ((n / 10 + 48) ∷ (n % 10 + 48) ∷ 10 ∷ [])) g)
+  pub two-digits-short : 10 ≤ n → length out < 11 → (0 ≡ wroteCount out (refusedLine why)) × (out ≡ wrote out (refusedLine why))
+  two-digits-short h g = rw (two-digits why n e h) (wrote-none out (refusedWord ++ ((n / 10 + 48) ∷ (n % 10 + 48) ∷ 10 ∷ [])) g)
 
-  pub one-whole : (out′ : List ℕ) → n < 10 → 10 ≤ length out → out′ ≡ sets out 0 refusedWord
+  pub one-digit-written : (out′ : List ℕ) → n < 10 → 10 ≤ length out → out′ ≡ sets out 0 refusedWord
       → (10 ≡ wroteCount out (refusedLine why)) × (set (set out′ 8 (n + 48)) 9 10 ≡ wrote out (refusedLine why))
-  one-whole out′ h g e′ = rw (one-digit why n e h) (wrote-all out (refusedWord ++ ((n + 48) ∷ 10 ∷ [])) 10 _ refl g (rw e′))
+  one-digit-written out′ h g e′ = rw (one-digit why n e h) (wrote-all out (refusedWord ++ ((n + 48) ∷ 10 ∷ [])) 10 _ refl g (rw e′))
 
-  pub two-whole : (out′ : List ℕ) → 10 ≤ n → 11 ≤ length out → out′ ≡ sets out 0 refusedWord
+  pub two-digits-written : (out′ : List ℕ) → 10 ≤ n → 11 ≤ length out → out′ ≡ sets out 0 refusedWord
       → (11 ≡ wroteCount out (refusedLine why)) × (set (set (set out′ 8 (n / 10 + 48)) 9 (n % 10 + 48)) 10 10 ≡ wrote out (refusedLine why))
-  two-whole out′ h g e′ = rw (two-digits why n e h) (wrote-all out (refusedWord ++ ((n / 10 + 48) ∷ (n % 10 + 48) ∷ 10 ∷ [])) 11 _ refl g (rw e′))
+  two-digits-written out′ h g e′ = rw (two-digits why n e h) (wrote-all out (refusedWord ++ ((n / 10 + 48) ∷ (n % 10 + 48) ∷ 10 ∷ [])) 11 _ refl g (rw e′))
 
 -- ---- the line that a refusal adds
 

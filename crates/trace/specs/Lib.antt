@@ -1,10 +1,10 @@
-pub mod Turns
+pub mod LanesInTurn
 pub mod Trace
 pub mod Taken
 pub mod TraceLaws
 pub mod Windows
 pub mod Columns
-pub mod Started
+pub mod CutOrRest
 pub mod HandBuilt
 pub mod StartLaws
 pub mod Slices

@@ -26,9 +26,9 @@ use Rattle.bank.specs.Bank.{freshBank, callBank}
 use Rattle.bank.specs.Runs.{after}
 use Rattle.lanes.specs.Runs.{left}
 use Rattle.trace.specs.declared.course.Begun.{Begun}
-use Rattle.trace.specs.Turns.{inTurn, each}
+use Rattle.trace.specs.LanesInTurn.{inTurn, readEach}
 use Rattle.trace.specs.Trace.{isF4, settingsRefusal, openOf, openedBank, traceRefusal, refusedStart, unless, traceStart, startOf}
-use Rattle.trace.specs.TraceLaws.{Settings, settings-parts}
+use Rattle.trace.specs.TraceLaws.{AcceptedSettings, settings-parts}
 
 -- ---- the settings, test by test
 
@@ -88,28 +88,28 @@ module _ (k : ℕ) (h : Head) where
 
 -- ---- the lanes that are opened
 
-pub opens : (kp ki kd tau dt : Float) (s : List ℕ) (i : ℕ)
+pub open-of-cells : (kp ki kd tau dt : Float) (s : List ℕ) (i : ℕ)
     → kp ≡ cellOf F4 (drop i s) → ki ≡ cellOf F4 (drop (i + 4) s) → kd ≡ cellOf F4 (drop (i + 8) s) → tau ≡ cellOf F4 (drop (i + 12) s) → dt ≡ cellOf F4 (drop (i + 16) s)
     → Open kp ki kd tau dt Off ≡ openOf (drop i s)
 unfolding openOf
-opens kp ki kd tau dt s i e1 e2 e3 e4 e5 = rw (e1, e2, e3, e4, e5, drop-drop 4 i s, drop-drop 8 i s, drop-drop 12 i s, drop-drop 16 i s)
+open-of-cells kp ki kd tau dt s i e1 e2 e3 e4 e5 = rw (e1, e2, e3, e4, e5, drop-drop 4 i s, drop-drop 8 i s, drop-drop 12 i s, drop-drop 16 i s)
 
 module _ (s : List ℕ) where
-  pub open-more : (k lane i : ℕ) (b : Bank) (op : Op) → lane < k → op ≡ openOf (drop i s)
-      → after (callBank b lane op .bank) (inTurn (lane + 1) (each openOf 20 (k - (lane + 1)) (drop (i + 20) s))) ≡ after b (inTurn lane (each openOf 20 (k - lane) (drop i s)))
-  unfolding inTurn each left
-  open-more k lane i b op h e =
+  pub opening-more : (k lane i : ℕ) (b : Bank) (op : Op) → lane < k → op ≡ openOf (drop i s)
+      → after (callBank b lane op .bank) (inTurn (lane + 1) (readEach openOf 20 (k - (lane + 1)) (drop (i + 20) s))) ≡ after b (inTurn lane (readEach openOf 20 (k - lane) (drop i s)))
+  unfolding inTurn readEach left
+  opening-more k lane i b op h e =
       let a : k - lane ≡ suc (k - (lane + 1)) = omega arith in
       let l : lane + 1 ≡ suc lane = omega arith in
       rw (a, e, l, drop-drop 20 i s)
 
-  pub open-done : (k lane i : ℕ) (b : Bank) → k ≤ lane → b ≡ after b (inTurn lane (each openOf 20 (k - lane) (drop i s)))
-  unfolding inTurn each left
-  open-done k lane i b h = let a : k - lane ≡ 0 = omega arith in rw a
+  pub opening-done : (k lane i : ℕ) (b : Bank) → k ≤ lane → b ≡ after b (inTurn lane (readEach openOf 20 (k - lane) (drop i s)))
+  unfolding inTurn readEach left
+  opening-done k lane i b h = let a : k - lane ≡ 0 = omega arith in rw a
 
-  pub open-start : (k : ℕ) (b : Bank) → b ≡ freshBank → after b (inTurn 0 (each openOf 20 (k - 0) (drop 0 s))) ≡ openedBank k s
+  pub opening-start : (k : ℕ) (b : Bank) → b ≡ freshBank → after b (inTurn 0 (readEach openOf 20 (k - 0) (drop 0 s))) ≡ openedBank k s
   unfolding openedBank
-  open-start k b e = let a : k - 0 ≡ k = omega arith in rw (e, a)
+  opening-start k b e = let a : k - 0 ≡ k = omega arith in rw (e, a)
 
 -- ---- the start
 
@@ -147,5 +147,5 @@ start-given s h why t b r eh ew et g eb er =
     let eb' : b ≡ openedBank (h .rows) (drop (h .at) s) = rw (to-end s (h .at)) at eb in
     er ∙ rw (← eh, ← ew, ← et, g, eb')
 
-pub settings-from : (s : List ℕ) (h : Head) (why : Refusal) (t : Bool) → why ≡ settingsRefusal h (length s) → t ≡ passes why → t ≡ true → Settings h (length s)
+pub settings-from : (s : List ℕ) (h : Head) (why : Refusal) (t : Bool) → why ≡ settingsRefusal h (length s) → t ≡ passes why → t ≡ true → AcceptedSettings h (length s)
 settings-from s h why t ew et g = settings-parts h (length s) (rw (← ew, ← et) g)

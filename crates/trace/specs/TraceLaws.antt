@@ -18,8 +18,8 @@ use Rattle.npy.specs.Header.{hasCells, cellWidth, isAccepted, headerOf}
 use Rattle.npy.specs.HeaderLaws.{at-within}
 use Rattle.trace.specs.declared.course.Course.{Course}
 use Rattle.trace.specs.declared.course.Begun.{Begun}
-use Rattle.trace.specs.Trace.{isF4, settingsBytes, settingsRefusal, openedBank, traceRefusal, unless, traceStart, refusedStart, startOf, replayOf, replayRefusal, rowWidth, nextRows, onRows, restRefusal, courseRefusal, refusedLine, reasonText, courseText}
-use Rattle.trace.specs.Taken.{CanTake, Whole, text-cut, whole-rows, rows-cut, spent-rest, on-left}
+use Rattle.trace.specs.Trace.{isF4, settingsBytes, settingsRefusal, openedBank, traceRefusal, unless, traceStart, refusedStart, startOf, replayOf, replayRefusal, rowWidth, rowLines, afterRows, restRefusal, courseRefusal, refusedLine, reasonText, courseText}
+use Rattle.trace.specs.Taken.{CanTake, MostRows, text-cut, most-rows-text, rows-cut, spent-rest, after-left}
 
 -- ---- the start
 
@@ -29,7 +29,7 @@ not-given true x y h e = (refl, e)
 not-given false x y h e = let z : false ≡ true = sym (h refl) ∙ e in ((cc), (cc))
 
 -- what an accepted first array is
-pub record Settings (h : Head) (len : ℕ) : Type 0 where
+pub record AcceptedSettings (h : Head) (len : ℕ) : Type 0 where
   pub good : isAccepted h ≡ true
   pub kind : isF4 (h .kind) ≡ true
   pub some : 1 ≤ h .rows
@@ -37,7 +37,7 @@ pub record Settings (h : Head) (len : ℕ) : Type 0 where
   pub five : h .cols ≡ 5
   pub fits : h .at + settingsBytes (h .rows) ≤ len
 
-pub settings-parts : (h : Head) (len : ℕ) → passes (settingsRefusal h len) ≡ true → Settings h len
+pub settings-parts : (h : Head) (len : ℕ) → passes (settingsRefusal h len) ≡ true → AcceptedSettings h len
 unfolding settingsRefusal passes
 settings-parts h len e =
     let a = not-given (isAccepted h) _ (h .refusal) (λ x. x) e in
@@ -74,8 +74,8 @@ abbrev pub secondHead : List ℕ → Head
 secondHead s = headerOf (drop (secondAt s) s)
 
 -- an accepted start
-pub record Started (s : List ℕ) : Type 0 where
-  pub settings : Settings (firstHead s) (length s)
+pub record AcceptedStart (s : List ℕ) : Type 0 where
+  pub settings : AcceptedSettings (firstHead s) (length s)
   pub trace : (isAccepted (secondHead s) ≡ true) × (hasCells (secondHead s .kind) ≡ true) × (secondHead s .cols ≡ firstHead s .rows * 3)
   pub kind : startOf s .course .kind ≡ secondHead s .kind
   pub lanes : startOf s .course .lanes ≡ firstHead s .rows
@@ -92,9 +92,9 @@ unless-passed why next = go (passes why) refl
     go false e h = absurd (true≢false (sym h ∙ e))
     go true e h = (refl, refl)
 
-pub started : (s : List ℕ) → passes (startOf s .refusal) ≡ true → Started s
+pub accepted-start : (s : List ℕ) → passes (startOf s .refusal) ≡ true → AcceptedStart s
 unfolding startOf traceStart
-started s h =
+accepted-start s h =
     let first = unless-passed _ _ h in
     let second = unless-passed (traceRefusal (headerOf s .rows) (secondHead s)) _ (subst (λ (b : Begun). passes (b .refusal) ≡ true) (first .1) h) in
     let is = first .1 ∙ second .1 in
@@ -109,19 +109,19 @@ started s h =
     }
 
 -- the rows begin within the file
-pub start-within : (s : List ℕ) → Started s → startOf s .at ≤ length s
+pub start-within : (s : List ℕ) → AcceptedStart s → startOf s .at ≤ length s
 start-within s g =
     let a : secondHead s .at ≤ length s - secondAt s = rw length-drop at (at-within (drop (secondAt s) s)) in
     omega (arith, g .at, g .settings .fits)
 
 -- a row of an accepted trace has bytes
-pub some-bytes : (s : List ℕ) → Started s → 0 < rowWidth (startOf s .course)
+pub row-has-bytes : (s : List ℕ) → AcceptedStart s → 0 < rowWidth (startOf s .course)
 unfolding rowWidth
-some-bytes s g = rw (g .kind, g .lanes) (mul-pos (omega (arith, g .settings .some)) (ltb-true 0 (cellWidth (secondHead s .kind)) (g .trace .1)))
+row-has-bytes s g = rw (g .kind, g .lanes) (mul-pos (omega (arith, g .settings .some)) (ltb-true 0 (cellWidth (secondHead s .kind)) (g .trace .1)))
 
 -- the bytes of its rows, and what comes after them
-abbrev pub rowsOf : List ℕ → List ℕ
-rowsOf s = drop (startOf s .at) s
+abbrev pub bytesAfterStart : List ℕ → List ℕ
+bytesAfterStart s = drop (startOf s .at) s
 
 -- ---- THE WHOLE FILE: one whose start is refused prints its refusal alone
 
@@ -129,41 +129,41 @@ pub refused-prints : (s : List ℕ) → passes (startOf s .refusal) ≡ false �
 unfolding replayOf
 refused-prints s e = simp e
 
-pub accepted-refusal : (s : List ℕ) → passes (startOf s .refusal) ≡ true → replayRefusal s ≡ courseRefusal (startOf s .course) (rowsOf s)
+pub accepted-refusal : (s : List ℕ) → passes (startOf s .refusal) ≡ true → replayRefusal s ≡ courseRefusal (startOf s .course) (bytesAfterStart s)
 unfolding replayRefusal
 accepted-refusal s e = simp e
 
 -- and one whose start is accepted the lines of the rows that can be taken, and then the line of what stops it
-pub accepted-prints : (s : List ℕ) (m : ℕ) → passes (startOf s .refusal) ≡ true → Whole (startOf s .course) (rowsOf s) m
-    → replayOf s ≡ nextRows m (startOf s .course) (rowsOf s) ++ reasonText (replayRefusal s)
+pub accepted-prints : (s : List ℕ) (m : ℕ) → passes (startOf s .refusal) ≡ true → MostRows (startOf s .course) (bytesAfterStart s) m
+    → replayOf s ≡ rowLines m (startOf s .course) (bytesAfterStart s) ++ reasonText (replayRefusal s)
 unfolding replayOf
-accepted-prints s m e w = simp (e, accepted-refusal s e) (whole-rows (startOf s .course) (rowsOf s) m w)
+accepted-prints s m e w = simp (e, accepted-refusal s e) (most-rows-text (startOf s .course) (bytesAfterStart s) m w)
 
 -- it begins with the lines of any number of rows that can be taken
-pub accepted-lines : (s : List ℕ) (m : ℕ) → passes (startOf s .refusal) ≡ true → CanTake m (startOf s .course) (rowsOf s)
-    → replayOf s ≡ nextRows m (startOf s .course) (rowsOf s) ++ courseText (onRows m (startOf s .course) (rowsOf s)) (drop (m * rowWidth (startOf s .course)) (rowsOf s))
+pub accepted-lines : (s : List ℕ) (m : ℕ) → passes (startOf s .refusal) ≡ true → CanTake m (startOf s .course) (bytesAfterStart s)
+    → replayOf s ≡ rowLines m (startOf s .course) (bytesAfterStart s) ++ courseText (afterRows m (startOf s .course) (bytesAfterStart s)) (drop (m * rowWidth (startOf s .course)) (bytesAfterStart s))
 unfolding replayOf
-accepted-lines s m e t = simp e (text-cut m (startOf s .course) (rowsOf s) t)
+accepted-lines s m e t = simp e (text-cut m (startOf s .course) (bytesAfterStart s) t)
 
 -- nothing of the file is refused: its start is accepted, its rows can all be taken, and there is nothing behind them
-pub record Accepted (s : List ℕ) : Type 0 where
-  pub start : passes (startOf s .refusal) ≡ true
-  pub rows : CanTake (startOf s .course .left) (startOf s .course) (rowsOf s)
-  pub rest : drop (startOf s .course .left * rowWidth (startOf s .course)) (rowsOf s) ≡ []
+pub record AcceptedFile (s : List ℕ) : Type 0 where
+  pub start-passes : passes (startOf s .refusal) ≡ true
+  pub rows : CanTake (startOf s .course .left) (startOf s .course) (bytesAfterStart s)
+  pub rest : drop (startOf s .course .left * rowWidth (startOf s .course)) (bytesAfterStart s) ≡ []
 
-pub accepted-all : (s : List ℕ) → Accepted s → Whole (startOf s .course) (rowsOf s) (startOf s .course .left)
-accepted-all s a = record { taken = a .rows; spent = inl (on-left (startOf s .course .left) (startOf s .course) (rowsOf s) ∙ omega arith) }
+pub accepted-all : (s : List ℕ) → AcceptedFile s → MostRows (startOf s .course) (bytesAfterStart s) (startOf s .course .left)
+accepted-all s a = record { taken = a .rows; spent = inl (after-left (startOf s .course .left) (startOf s .course) (bytesAfterStart s) ∙ omega arith) }
 
 -- then nothing of it is refused (the converse: `unrefused-accepted`, WholeLaws)
-pub accepted-unrefused : (s : List ℕ) → Accepted s → replayRefusal s ≡ Refusal.None
+pub accepted-unrefused : (s : List ℕ) → AcceptedFile s → replayRefusal s ≡ Refusal.None
 unfolding restRefusal
 accepted-unrefused s a =
     let c = startOf s .course in
-    accepted-refusal s (a .start) ∙ rows-cut (c .left) c (rowsOf s) (a .rows) .1
-    ∙ spent-rest (onRows (c .left) c (rowsOf s)) (drop (c .left * rowWidth c) (rowsOf s)) (on-left (c .left) c (rowsOf s) ∙ omega arith)
+    accepted-refusal s (a .start-passes) ∙ rows-cut (c .left) c (bytesAfterStart s) (a .rows) .1
+    ∙ spent-rest (afterRows (c .left) c (bytesAfterStart s)) (drop (c .left * rowWidth c) (bytesAfterStart s)) (after-left (c .left) c (bytesAfterStart s) ∙ omega arith)
     ∙ rw (a .rest)
 
 -- it prints the lines of its rows and nothing else
-pub accepted-text : (s : List ℕ) → Accepted s → replayOf s ≡ nextRows (startOf s .course .left) (startOf s .course) (rowsOf s)
+pub accepted-text : (s : List ℕ) → AcceptedFile s → replayOf s ≡ rowLines (startOf s .course .left) (startOf s .course) (bytesAfterStart s)
 unfolding reasonText passes
-accepted-text s a = accepted-prints s (startOf s .course .left) (a .start) (accepted-all s a) ∙ rw (accepted-unrefused s a, append-nil)
+accepted-text s a = accepted-prints s (startOf s .course .left) (a .start-passes) (accepted-all s a) ∙ rw (accepted-unrefused s a, append-nil)

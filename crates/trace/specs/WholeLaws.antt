@@ -24,11 +24,11 @@ use Rattle.trace.specs.declared.course.Course.{Course}
 use Rattle.trace.specs.declared.course.Begun.{Begun}
 use Rattle.trace.specs.declared.course.Went.{Went}
 use Rattle.trace.specs.declared.course.Measured.{Measured}
-use Rattle.trace.specs.Trace.{startOf, rowWidth, rowLine, rowOn, nextRows, onRows, rowRefusal, restRefusal, courseRefusal, refusedLine, reasonText, courseLines, courseText, replayOf, replayRefusal}
+use Rattle.trace.specs.Trace.{startOf, rowWidth, rowLine, afterRow, rowLines, afterRows, rowRefusal, restRefusal, courseRefusal, refusedLine, reasonText, courseLines, courseText, replayOf, replayRefusal}
 use Rattle.trace.specs.Slices.{rowsIn, wentOf, measuredOf, wrote, wroteCount, replayedOf}
-use Rattle.trace.specs.Taken.{CanTake, Spent, take-left, Whole, wholeRows, whole-is, row-taken, row-cut, rows-cut, spent-lines, spent-rest, spent-row, row-length, rows-length, on-left}
-use Rattle.trace.specs.TraceLaws.{rowsOf, Accepted, accepted-refusal, secondAt, started, start-within}
-use Rattle.trace.specs.RowsLaws.{Went-on, some-tried}
+use Rattle.trace.specs.Taken.{CanTake, Spent, take-left, MostRows, mostRows, most-rows, row-taken, row-cut, rows-cut, spent-lines, spent-rest, spent-row, row-length, rows-length, after-left}
+use Rattle.trace.specs.TraceLaws.{bytesAfterStart, AcceptedFile, accepted-refusal, secondAt, accepted-start, start-within}
+use Rattle.trace.specs.RowsLaws.{WentRowByRow, some-tried}
 use Rattle.trace.specs.MeasureLaws.{count-left, lines-length, went-here, on-here, place-here, there-here, refused-stops}
 use Rattle.trace.specs.EndLaws.{one-digit, two-digits}
 
@@ -43,14 +43,14 @@ few-rows s = go (isAccepted (headerOf s)) refl
 
 -- ---- what a start that is not refused is
 
-pub record Ready (b : Begun) (len : ℕ) : Type 0 where
+pub record StartBounds (b : Begun) (len : ℕ) : Type 0 where
   pub lanes : b .course .lanes ≤ 8
   pub few : b .course .left < 1000000000
   pub there : b .at ≤ len
 
-pub ready : (s : List ℕ) → passes (startOf s .refusal) ≡ true → Ready (startOf s) (length s)
-ready s e =
-    let g = started s e in
+pub start-bounds : (s : List ℕ) → passes (startOf s .refusal) ≡ true → StartBounds (startOf s) (length s)
+start-bounds s e =
+    let g = accepted-start s e in
     record {
       lanes = rw (g .lanes) (g .settings .few);
       few = rw (g .left) (few-rows (drop (secondAt s) s));
@@ -87,7 +87,7 @@ part-put vs ys out o e =
     let a : o + 0 ≡ o = omega arith in
     rw (z, append-nil ys, ys′) (rw a at (sets-part vs out o 0))
 
-next-length : (n : ℕ) (c : Course) (s : List ℕ) → length (nextRows n c s) ≡ n * (c .lanes * 9)
+next-length : (n : ℕ) (c : Course) (s : List ℕ) → length (rowLines n c s) ≡ n * (c .lanes * 9)
 next-length n c s = rows-length n c s ∙ ap (λ (m : ℕ). n * m) (mul-comm 9 (c .lanes))
 
 module _ (s out₀ : List ℕ) (c₀ : Course) where
@@ -101,34 +101,34 @@ module _ (s out₀ : List ℕ) (c₀ : Course) where
 
     module _ (cells values : ℕ) (went : Went) (ys : List ℕ) (l : 0 < c .left)
         (e : went ≡ wentOf (rowsIn c (length (take (length s - at) (drop at s))) cells values (length (take (length out - o) (drop o out)))) c (take (length s - at) (drop at s)))
-        (ey : ys ≡ sets (take (length out - o) (drop o out)) 0 (nextRows (went .rows) c (take (length s - at) (drop at s)))) where
-      here : Went-on (rowsIn c (length (drop at s)) cells values (length (take (length out - o) (drop o out)))) c (drop at s) went
+        (ey : ys ≡ sets (take (length out - o) (drop o out)) 0 (rowLines (went .rows) c (take (length s - at) (drop at s)))) where
+      here : WentRowByRow (rowsIn c (length (drop at s)) cells values (length (take (length out - o) (drop o out)))) c (drop at s) went
       here = went-here s c at cells values (length (take (length out - o) (drop o out))) went e
 
       -- the lines of the rows that were taken, in their place
-      put : take o out ++ (ys ++ drop (length out - o) (drop o out)) ≡ sets out o (nextRows (went .rows) c (drop at s))
-      put = part-put (nextRows (went .rows) c (drop at s)) ys out o (rw (to-end s at) at ey)
+      lines-put : take o out ++ (ys ++ drop (length out - o) (drop o out)) ≡ sets out o (rowLines (went .rows) c (drop at s))
+      lines-put = part-put (rowLines (went .rows) c (drop at s)) ys out o (rw (to-end s at) at ey)
 
       -- they are the last
-      last : courseLines c (drop at s) ≡ nextRows (went .rows) c (drop at s) → take o out ++ (ys ++ drop (length out - o) (drop o out)) ≡ sets out₀ 0 (courseLines c₀ s)
-      last h = put ∙ ap (sets out o) (sym h) ∙ p .text
+      lines-last : courseLines c (drop at s) ≡ rowLines (went .rows) c (drop at s) → take o out ++ (ys ++ drop (length out - o) (drop o out)) ≡ sets out₀ 0 (courseLines c₀ s)
+      lines-last h = lines-put ∙ ap (sets out o) (sym h) ∙ p .text
 
       -- the next row is refused
       pub print-refused : (t : Bool) → t ≡ passes (went .refusal) → t ≡ false → take o out ++ (ys ++ drop (length out - o) (drop o out)) ≡ sets out₀ 0 (courseLines c₀ s)
       print-refused t et f =
           let stop = refused-stops s c at cells values (length (take (length out - o) (drop o out))) went e (sym et ∙ f) in
-          last (rows-cut (went .rows) c (drop at s) (here .taken) .0 ∙ rw (spent-lines _ _ (stop .0), append-nil))
+          lines-last (rows-cut (went .rows) c (drop at s) (here .taken) .0 ∙ rw (spent-lines _ _ (stop .0), append-nil))
 
       -- none was tried, though there is room for the lines that are to come: so there is none
       pub print-none : 24 ≤ cells → 8 ≤ values → (t : Bool) → t ≡ passes (went .refusal) → t ≡ true → went .rows ≡ 0 → take o out ++ (ys ++ drop (length out - o) (drop o out)) ≡ sets out₀ 0 (courseLines c₀ s)
-      unfolding nextRows
-      print-none x y t et f z = last (go (passes (rowRefusal c (drop at s))) refl ∙ rw z)
+      unfolding rowLines
+      print-none x y t et f z = lines-last (go (passes (rowRefusal c (drop at s))) refl ∙ rw z)
         where
           go : (b : Bool) → passes (rowRefusal c (drop at s)) ≡ b → courseLines c (drop at s) ≡ []
           go false g = spent-lines c (drop at s) (inr g)
           go true g =
               let row = row-taken c (drop at s) g in
-              let line : length (courseLines c (drop at s)) ≡ c .lanes * 9 + length (courseLines (rowOn c (c .left - 1) (drop at s)) (drop (rowWidth c) (drop at s))) =
+              let line : length (courseLines c (drop at s)) ≡ c .lanes * 9 + length (courseLines (afterRow c (c .left - 1) (drop at s)) (drop (rowWidth c) (drop at s))) =
               ap length (row-cut c (drop at s) l g .0) ∙ length-append (rowLine c (drop at s)) _ ∙ rw (row-length c (drop at s)) (omega arith) in
               let lo : length (take (length out - o) (drop o out)) ≡ length out - o = rw (to-end out o) (length-drop o out) in
               let some = some-tried c (length (drop at s)) cells values (length (take (length out - o) (drop o out))) l (row .form) (row .there) x y (omega (arith, p .fits, p .long)) in
@@ -139,14 +139,14 @@ module _ (s out₀ : List ℕ) (c₀ : Course) where
       print-on t et f =
           let on = on-here s c at cells values (length (take (length out - o) (drop o out))) went e (sym et ∙ f) in
           let place = place-here s c at cells values (length (take (length out - o) (drop o out))) went e in
-          let a = nextRows (went .rows) c (drop at s) in
-          let al : length (nextRows (went .rows) c (drop at s)) ≡ went .written = next-length (went .rows) c (drop at s) ∙ sym (here .lines) in
+          let a = rowLines (went .rows) c (drop at s) in
+          let al : length (rowLines (went .rows) c (drop at s)) ≡ went .written = next-length (went .rows) c (drop at s) ∙ sym (here .lines) in
           let b = courseLines (went .course) (drop (at + went .taken) s) in
-          let cut : courseLines c (drop at s) ≡ nextRows (went .rows) c (drop at s) ++ courseLines (went .course) (drop (at + went .taken) s) = rows-cut (went .rows) c (drop at s) (here .taken) .0 ∙ rw (on, place) in
+          let cut : courseLines c (drop at s) ≡ rowLines (went .rows) c (drop at s) ++ courseLines (went .course) (drop (at + went .taken) s) = rows-cut (went .rows) c (drop at s) (here .taken) .0 ∙ rw (on, place) in
           let len : length (courseLines c (drop at s)) ≡ went .written + length (courseLines (went .course) (drop (at + went .taken) s)) = ap length cut ∙ length-append a b ∙ rw al in
           record {
-            text = rw put (rw (← al) (sym (sets-append a b out o)) ∙ ap (sets out o) (sym cut) ∙ p .text);
-            long = rw put (length-sets out o a ∙ p .long);
+            text = rw lines-put (rw (← al) (sym (sets-append a b out o)) ∙ ap (sets out o) (sym cut) ∙ p .text);
+            long = rw lines-put (length-sets out o a ∙ p .long);
             fits = omega (arith, p .fits);
             there = there-here s c at cells values (length (take (length out - o) (drop o out))) went e (p .there);
           }
@@ -182,24 +182,24 @@ module _ (why why′ : Refusal) (need : ℕ) (text out : List ℕ) (e : why ≡ 
       (rw (e, l, le-leb _ _ g), o ∙ rw (le-leb _ _ g))
 
 module _ (c : Course) (s : List ℕ) (m : Measured) (e : m ≡ measuredOf c s) where
-  pub refusal-is : m .refusal ≡ courseRefusal c s
+  pub measured-refusal : m .refusal ≡ courseRefusal c s
   unfolding measuredOf
-  refusal-is = rw e refl
+  measured-refusal = rw e refl
 
-  pub lines-are : m .rows * (c .lanes * 9) ≡ length (courseLines c s)
+  pub measured-lines : m .rows * (c .lanes * 9) ≡ length (courseLines c s)
   unfolding measuredOf
-  lines-are = rw e (sym (lines-length c s))
+  measured-lines = rw e (sym (lines-length c s))
 
   -- far from the largest number
-  pub lines-fit : c .lanes ≤ 8 → c .left < 1000000000 → m .rows * (c .lanes * 9) ≤ 72000000000
+  pub measured-lines-small : c .lanes ≤ 8 → c .left < 1000000000 → m .rows * (c .lanes * 9) ≤ 72000000000
   unfolding measuredOf
-  lines-fit k h =
+  measured-lines-small k h =
       let few : m .rows ≤ c .left = rw e (count-left c s) in
       mul-le-mul {n₁ = m .rows} {m₁ = c .lanes * 9} {n₂ = 1000000000} {m₂ = 72} (omega arith) (omega arith)
 
-  pub need-is : (r : ℕ) → r ≡ length (reasonText (m .refusal)) → m .rows * (c .lanes * 9) + r ≡ length (courseText c s)
+  pub measured-need : (r : ℕ) → r ≡ length (reasonText (m .refusal)) → m .rows * (c .lanes * 9) + r ≡ length (courseText c s)
   unfolding courseText
-  need-is r er = rw (er, lines-are, refusal-is) (sym (length-append (courseLines c s) (reasonText (courseRefusal c s))))
+  measured-need r er = rw (er, measured-lines, measured-refusal) (sym (length-append (courseLines c s) (reasonText (courseRefusal c s))))
 
   -- the lines, and then the line of the refusal behind them
   pub text-put : (out out₁ ys : List ℕ) (r : ℕ) → r ≡ length (reasonText (m .refusal)) → m .rows * (c .lanes * 9) + r ≤ length out → out₁ ≡ sets out 0 (courseLines c s)
@@ -213,19 +213,19 @@ module _ (c : Course) (s : List ℕ) (m : Measured) (e : m ≡ measuredOf c s) w
       let part : length (take (length out₁ - m .rows * (c .lanes * 9)) (drop (m .rows * (c .lanes * 9)) out₁)) ≡ length out₁ - m .rows * (c .lanes * 9) = rw (to-end out₁ o) (length-drop o out₁) in
       let fit : length (reasonText (m .refusal)) ≤ length (take (length out₁ - m .rows * (c .lanes * 9)) (drop (m .rows * (c .lanes * 9)) out₁)) = omega arith in
       let ys′ : ys ≡ sets (take (length out₁ - m .rows * (c .lanes * 9)) (drop (m .rows * (c .lanes * 9)) out₁)) 0 (reasonText (m .refusal)) = ey ∙ rw (le-leb _ _ fit) in
-      part-put why ys out₁ o ys′ ∙ rw (e1, refusal-is, lines-are) (sym (rw (zero-add (length (courseLines c s))) at (sets-append (courseLines c s) (reasonText (courseRefusal c s)) out 0)))
+      part-put why ys out₁ o ys′ ∙ rw (e1, measured-refusal, measured-lines) (sym (rw (zero-add (length (courseLines c s))) at (sets-append (courseLines c s) (reasonText (courseRefusal c s)) out 0)))
 
-pub whole-refused : (s : List ℕ) (b : Begun) (t : Bool) → b ≡ startOf s → t ≡ passes (b .refusal) → t ≡ false → (replayRefusal s ≡ b .refusal) × (replayOf s ≡ refusedLine (b .refusal))
+pub replay-of-refused : (s : List ℕ) (b : Begun) (t : Bool) → b ≡ startOf s → t ≡ passes (b .refusal) → t ≡ false → (replayRefusal s ≡ b .refusal) × (replayOf s ≡ refusedLine (b .refusal))
 unfolding replayRefusal replayOf
-whole-refused s b t e et h = let g : passes (startOf s .refusal) ≡ false = rw (← e, ← et) h in (rw (g, e), rw (g, e))
+replay-of-refused s b t e et h = let g : passes (startOf s .refusal) ≡ false = rw (← e, ← et) h in (rw (g, e), rw (g, e))
 
-pub whole-trace : (s : List ℕ) (b : Begun) (t : Bool) → b ≡ startOf s → t ≡ passes (b .refusal) → t ≡ true
+pub replay-of-trace : (s : List ℕ) (b : Begun) (t : Bool) → b ≡ startOf s → t ≡ passes (b .refusal) → t ≡ true
     → (replayRefusal s ≡ courseRefusal (b .course) (take (length s - b .at) (drop (b .at) s))) × (replayOf s ≡ courseText (b .course) (take (length s - b .at) (drop (b .at) s)))
 unfolding replayRefusal replayOf
-whole-trace s b t e et h = let g : passes (startOf s .refusal) ≡ true = rw (← e, ← et) h in (rw (to-end s (b .at), g, e), rw (to-end s (b .at), g, e))
+replay-of-trace s b t e et h = let g : passes (startOf s .refusal) ≡ true = rw (← e, ← et) h in (rw (to-end s (b .at), g, e), rw (to-end s (b .at), g, e))
 
-pub ready-from : (s : List ℕ) (b : Begun) (t : Bool) → b ≡ startOf s → t ≡ passes (b .refusal) → t ≡ true → Ready b (length s)
-ready-from s b t e et h = rw e (ready s (rw (← e, ← et) h))
+pub start-bounds-from : (s : List ℕ) (b : Begun) (t : Bool) → b ≡ startOf s → t ≡ passes (b .refusal) → t ≡ true → StartBounds b (length s)
+start-bounds-from s b t e et h = rw e (start-bounds s (rw (← e, ← et) h))
 
 pub refused-answer : (why : Refusal) (need n : ℕ) (out out′ : List ℕ) → passes why ≡ false → need ≡ length (reasonText why)
     → (n ≡ wroteCount out (refusedLine why)) × (out′ ≡ wrote out (refusedLine why))
@@ -247,31 +247,31 @@ no-rest [] h = refl
 no-rest (x ∷ xs) h = absurd (not-none Refusal.Rest refl h)
 
 -- a trace of which nothing is refused has all of its rows, and nothing behind them
-all-taken : (c : Course) (s : List ℕ) (m : ℕ) → Whole c s m → courseRefusal c s ≡ Refusal.None → CanTake (c .left) c s × (drop (c .left * rowWidth c) s ≡ [])
+all-taken : (c : Course) (s : List ℕ) (m : ℕ) → MostRows c s m → courseRefusal c s ≡ Refusal.None → CanTake (c .left) c s × (drop (c .left * rowWidth c) s ≡ [])
 all-taken c s m w none =
-    let after : Course = onRows m c s in
+    let after : Course = afterRows m c s in
     let rest : List ℕ = drop (m * rowWidth c) s in
-    let still : courseRefusal (onRows m c s) (drop (m * rowWidth c) s) ≡ Refusal.None = sym (rows-cut m c s (w .taken) .1) ∙ none in
+    let still : courseRefusal (afterRows m c s) (drop (m * rowWidth c) s) ≡ Refusal.None = sym (rows-cut m c s (w .taken) .1) ∙ none in
     let few = take-left m c s (w .taken) in
-    let left = on-left m c s in
+    let left = after-left m c s in
     ⊎-elim
-    (λ (more : 0 < onRows m c s .left).
+    (λ (more : 0 < afterRows m c s .left).
     ⊎-elim
-    (λ (z : onRows m c s .left ≡ 0). absurd (omega arith))
-    (λ (no : passes (rowRefusal (onRows m c s) (drop (m * rowWidth c) s)) ≡ false). absurd (not-none _ no (sym (spent-row after rest more no) ∙ still)))
+    (λ (z : afterRows m c s .left ≡ 0). absurd (omega arith))
+    (λ (no : passes (rowRefusal (afterRows m c s) (drop (m * rowWidth c) s)) ≡ false). absurd (not-none _ no (sym (spent-row after rest more no) ∙ still)))
     (w .spent))
-    (λ (none-left : onRows m c s .left ≤ 0).
+    (λ (none-left : afterRows m c s .left ≤ 0).
     let all : m ≡ c .left = omega arith in
-    let z : onRows m c s .left ≡ 0 = omega arith in
+    let z : afterRows m c s .left ≡ 0 = omega arith in
     (subst (λ (n : ℕ). CanTake n c s) all (w .taken), subst (λ (n : ℕ). drop (n * rowWidth c) s ≡ []) all (no-rest rest (sym (spent-rest after rest z) ∙ still))))
-    (lt-or-le 0 (onRows m c s .left))
+    (lt-or-le 0 (afterRows m c s .left))
 
-pub unrefused-accepted : (s : List ℕ) → replayRefusal s ≡ Refusal.None → Accepted s
+pub unrefused-accepted : (s : List ℕ) → replayRefusal s ≡ Refusal.None → AcceptedFile s
 unfolding replayRefusal
 unrefused-accepted s h = go (passes (startOf s .refusal)) refl
   where
-    go : (t : Bool) → passes (startOf s .refusal) ≡ t → Accepted s
+    go : (t : Bool) → passes (startOf s .refusal) ≡ t → AcceptedFile s
     go false e = absurd (not-none (startOf s .refusal) e (simp e at h))
     go true e =
-        let all = all-taken (startOf s .course) (rowsOf s) _ (whole-is (startOf s .course) (rowsOf s)) (simp e at h) in
-        record { start = e; rows = all .0; rest = all .1 }
+        let all = all-taken (startOf s .course) (bytesAfterStart s) _ (most-rows (startOf s .course) (bytesAfterStart s)) (simp e at h) in
+        record { start-passes = e; rows = all .0; rest = all .1 }

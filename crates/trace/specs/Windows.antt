@@ -23,12 +23,12 @@ use Rattle.npy.specs.HeaderStart.{leb-take, window-decides}
 use Rattle.npy.specs.CellLaws.{cell-start, cells-take}
 use Rattle.bank.specs.declared.Bank.{Bank}
 use Rattle.trace.specs.declared.course.Course.{Course}
-use Rattle.trace.specs.Turns.{each-take}
-use Rattle.trace.specs.Trace.{isF4, settingsBytes, settingsRefusal, openOf, openedBank, refusedStart, unless, traceStart, startOf, replayOf, refusedLine, reasonText, rowWidth, rowCalls, rowLine, rowOn, nextRows, onRows, formRefusal, cutRefusal, rowRefusal, courseRefusal, courseText}
-use Rattle.trace.specs.Taken.{CanTake, Spent, take-bytes, row-taken, text-cut, spent-lines, spent-rest, spent-row, spent-text, wholeRows, whole-is}
+use Rattle.trace.specs.LanesInTurn.{each-take}
+use Rattle.trace.specs.Trace.{isF4, settingsBytes, settingsRefusal, openOf, openedBank, refusedStart, unless, traceStart, startOf, replayOf, refusedLine, reasonText, rowWidth, rowCalls, rowLine, afterRow, rowLines, afterRows, formRefusal, cutRefusal, rowRefusal, courseRefusal, courseText}
+use Rattle.trace.specs.Taken.{CanTake, Spent, take-bytes, row-taken, text-cut, spent-lines, spent-rest, spent-row, spent-text, mostRows, most-rows}
 use Rattle.trace.specs.RowsLaws.{row-short, row-formless}
-use Rattle.trace.specs.MeasureLaws.{rest-of, rest-some}
-use Rattle.trace.specs.TraceLaws.{settings-parts, secondAt, started, start-within}
+use Rattle.trace.specs.MeasureLaws.{rest-refusal-of, rest-some}
+use Rattle.trace.specs.TraceLaws.{settings-parts, secondAt, accepted-start, start-within}
 
 -- ---- rows are read from their own bytes alone
 
@@ -48,15 +48,15 @@ row-ahead c s t h =
 -- so rows that can be taken can be taken whatever comes after them, and are the same
 pub record Ahead (n : ℕ) (c : Course) (s t : List ℕ) : Type 0 where
   pub taken : CanTake n c (s ++ t)
-  pub lines : nextRows n c (s ++ t) ≡ nextRows n c s
-  pub course : onRows n c (s ++ t) ≡ onRows n c s
+  pub lines : rowLines n c (s ++ t) ≡ rowLines n c s
+  pub course : afterRows n c (s ++ t) ≡ afterRows n c s
 
 pub rows-ahead : (n : ℕ) (c : Course) (s t : List ℕ) → CanTake n c s → Ahead n c s t
-unfolding CanTake nextRows onRows rowLine rowOn
+unfolding CanTake rowLines afterRows rowLine afterRow
 rows-ahead zero c s t h = record { taken = tt; lines = refl; course = refl }
 rows-ahead (suc n) c s t h =
     let there = row-taken c s (h .1) .there in
-    let rest = rows-ahead n (rowOn c (c .left - 1) s) (drop (rowWidth c) s) t (h .2) in
+    let rest = rows-ahead n (afterRow c (c .left - 1) s) (drop (rowWidth c) s) t (h .2) in
     let calls = calls-ahead c s t there in
     let behind = drop-append-le (rowWidth c) s t there in
     record {
@@ -66,7 +66,7 @@ rows-ahead (suc n) c s t h =
     }
 
 held-cut : (n : ℕ) (c : Course) (held rest : List ℕ) → CanTake n c held
-    → courseText c (held ++ rest) ≡ nextRows n c held ++ courseText (onRows n c held) (drop (n * rowWidth c) held ++ rest)
+    → courseText c (held ++ rest) ≡ rowLines n c held ++ courseText (afterRows n c held) (drop (n * rowWidth c) held ++ rest)
 held-cut n c held rest h =
     let ahead = rows-ahead n c held rest h in
     text-cut n c (held ++ rest) (ahead .taken) ∙ rw (ahead .lines, ahead .course, drop-append-le (n * rowWidth c) held rest (take-bytes n c held h))
@@ -88,14 +88,14 @@ unfoldable pub windowed : Course → List ℕ → List Window → List ℕ
 windowed c kept [] = reasonText (courseRefusal c kept)
 windowed c kept (w ∷ ws) =
     let held = kept ++ w .bytes in
-    nextRows (w .rows) c held ++ windowed (onRows (w .rows) c held) (drop (w .rows * rowWidth c) held) ws
+    rowLines (w .rows) c held ++ windowed (afterRows (w .rows) c held) (drop (w .rows * rowWidth c) held) ws
 
 -- it may print any number of rows that can be taken of what it holds, as its room for them asks, and ends where it may
 unfoldable pub AllowedTo : (Course → List ℕ → Type 0) → Course → List ℕ → List Window → Type 0
 AllowedTo End c kept [] = End c kept
 AllowedTo End c kept (w ∷ ws) =
     CanTake (w .rows) c (kept ++ w .bytes)
-    × AllowedTo End (onRows (w .rows) c (kept ++ w .bytes)) (drop (w .rows * rowWidth c) (kept ++ w .bytes)) ws
+    × AllowedTo End (afterRows (w .rows) c (kept ++ w .bytes)) (drop (w .rows * rowWidth c) (kept ++ w .bytes)) ws
 
 -- at the end of the input it has printed all of them
 abbrev pub Allowed : Course → List ℕ → List Window → Type 0
@@ -108,7 +108,7 @@ unfolding windowed AllowedTo joined
 windows-to End more tells [] c kept a = sym (tells c kept a)
 windows-to End more tells (w ∷ ws) c kept a =
     let held = kept ++ w .bytes in
-    let rest = windows-to End more tells ws (onRows (w .rows) c held) (drop (w .rows * rowWidth c) held) (a .1) in
+    let rest = windows-to End more tells ws (afterRows (w .rows) c held) (drop (w .rows * rowWidth c) held) (a .1) in
     rw (rest, append-assoc (w .bytes) (joined ws) more, ← append-assoc kept (w .bytes) (joined ws ++ more)) (sym (held-cut (w .rows) c held (joined ws ++ more) (a .0)))
 
 -- THE WINDOWS THEOREM: however the input is cut, and however many rows are printed at a time, the text is the same
@@ -136,39 +136,39 @@ pub rest-known : (c : Course) (kept more : List ℕ) → c .left ≡ 0 → 0 < l
 unfolding courseText reasonText passes
 rest-known c kept more e h =
     let some : 0 < length (kept ++ more) = rw length-append (omega arith) in
-    rw (spent-lines c (kept ++ more) (inl e), spent-rest c (kept ++ more) e, rest-of (kept ++ more), rest-some some)
+    rw (spent-lines c (kept ++ more) (inl e), spent-rest c (kept ++ more) e, rest-refusal-of (kept ++ more), rest-some some)
 
 -- so a reader may stop there, whatever is still to be read
-abbrev pub Known : Course → List ℕ → Type 0
-Known c kept = ((0 < c .left) × (passes (rowRefusal c kept) ≡ false) × (rowRefusal c kept ≡ Refusal.Cut → ⊥)) ⊎ ((c .left ≡ 0) × (0 < length kept))
+abbrev pub EndKnown : Course → List ℕ → Type 0
+EndKnown c kept = ((0 < c .left) × (passes (rowRefusal c kept) ≡ false) × (rowRefusal c kept ≡ Refusal.Cut → ⊥)) ⊎ ((c .left ≡ 0) × (0 < length kept))
 
-known-text : (more : List ℕ) (c : Course) (kept : List ℕ) → Known c kept → courseText c (kept ++ more) ≡ reasonText (courseRefusal c kept)
+known-text : (more : List ℕ) (c : Course) (kept : List ℕ) → EndKnown c kept → courseText c (kept ++ more) ≡ reasonText (courseRefusal c kept)
 unfolding reasonText passes
 known-text more c kept h =
     ⊎-elim
     (λ (k : (0 < c .left) × (passes (rowRefusal c kept) ≡ false) × (rowRefusal c kept ≡ Refusal.Cut → ⊥)). refused-known c kept more (k .0) (k .1) (k .2) ∙ sym (rw (spent-row c kept (k .0) (k .1), k .1)))
-    (λ (k : (c .left ≡ 0) × (0 < length kept)). rest-known c kept more (k .0) (k .1) ∙ sym (rw (spent-rest c kept (k .0), rest-of kept, rest-some (k .1))))
+    (λ (k : (c .left ≡ 0) × (0 < length kept)). rest-known c kept more (k .0) (k .1) ∙ sym (rw (spent-rest c kept (k .0), rest-refusal-of kept, rest-some (k .1))))
     h
 
-pub early-theorem : (more : List ℕ) (ws : List Window) (c : Course) (kept : List ℕ) → AllowedTo Known c kept ws → windowed c kept ws ≡ courseText c (kept ++ (joined ws ++ more))
-early-theorem more = windows-to Known more (known-text more)
+pub early-theorem : (more : List ℕ) (ws : List Window) (c : Course) (kept : List ℕ) → AllowedTo EndKnown c kept ws → windowed c kept ws ≡ courseText c (kept ++ (joined ws ++ more))
+early-theorem more = windows-to EndKnown more (known-text more)
 
 -- a reader that prints all the rows it holds, each time
 unfoldable pub atOnce : Course → List ℕ → List (List ℕ) → List Window
 atOnce c kept [] = []
 atOnce c kept (bytes ∷ more) =
     let held = kept ++ bytes in
-    let n = wholeRows c held in
-    record { bytes = bytes; rows = n } ∷ atOnce (onRows n c held) (drop (n * rowWidth c) held) more
+    let n = mostRows c held in
+    record { bytes = bytes; rows = n } ∷ atOnce (afterRows n c held) (drop (n * rowWidth c) held) more
 
 pub at-once-allowed : (parts : List (List ℕ)) (c : Course) (kept : List ℕ) → (parts ≡ [] → Spent c kept) → Allowed c kept (atOnce c kept parts)
 unfolding atOnce AllowedTo
 at-once-allowed [] c kept e = e refl
 at-once-allowed (bytes ∷ more) c kept e =
     let held = kept ++ bytes in
-    let n = wholeRows c held in
-    let w = whole-is c held in
-    (w .taken, at-once-allowed more (onRows n c held) (drop (n * rowWidth c) held) (λ _. w .spent))
+    let n = mostRows c held in
+    let w = most-rows c held in
+    (w .taken, at-once-allowed more (afterRows n c held) (drop (n * rowWidth c) held) (λ _. w .spent))
 
 -- all that it reads
 unfoldable pub allOf : List (List ℕ) → List ℕ
@@ -198,14 +198,14 @@ trace-take k b at n s h =
     let e : headerOf (drop at (take n s)) ≡ headerOf (drop at s) = rw (drop-take at n s) (window-decides (n - at) (drop at s) (omega arith)) in
     rw e
 
-open-take : (m : ℕ) (s : List ℕ) → 20 ≤ m → openOf (take m s) ≡ openOf s
+open-of-take : (m : ℕ) (s : List ℕ) → 20 ≤ m → openOf (take m s) ≡ openOf s
 unfolding openOf
-open-take m s h =
+open-of-take m s h =
     rw (drop-take 4 m s, drop-take 8 m s, drop-take 12 m s, drop-take 16 m s, cell-start F4 m s (omega arith), cell-start F4 (m - 4) (drop 4 s) (omega arith), cell-start F4 (m - 8) (drop 8 s) (omega arith), cell-start F4 (m - 12) (drop 12 s) (omega arith), cell-start F4 (m - 16) (drop 16 s) (omega arith))
 
 opened-take : (k at n : ℕ) (s : List ℕ) → at + k * 20 ≤ n → openedBank k (drop at (take n s)) ≡ openedBank k (drop at s)
 unfolding openedBank
-opened-take k at n s h = rw (drop-take at n s, each-take openOf 20 k (n - at) (drop at s) open-take (omega arith))
+opened-take k at n s h = rw (drop-take at n s, each-take openOf 20 k (n - at) (drop at s) open-of-take (omega arith))
 
 settings-take : (n : ℕ) (s : List ℕ) (h : Head) → h .at + 160 ≤ n → settingsRefusal h (length (take n s)) ≡ settingsRefusal h (length s)
 unfolding settingsRefusal
@@ -277,7 +277,7 @@ streamed-theorem first ws enough allowed = rw (← start-early first (joined ws)
         ≡ cond (passes (startOf first .refusal)) (courseText (startOf first .course) (drop (startOf first .at) (first ++ joined ws))) (refusedLine (startOf first .refusal))
     go false e = rw e
     go true e =
-        rw (e, drop-append-le (startOf first .at) first (joined ws) (start-within first (started first e)))
+        rw (e, drop-append-le (startOf first .at) first (joined ws) (start-within first (accepted-start first e)))
         (windows-theorem ws (startOf first .course) (drop (startOf first .at) first) (allowed e))
 
 -- such a reader's windows where it prints all the rows it holds, first those behind the start

@@ -1,7 +1,7 @@
 use lib.ListN.{length-set}
 use denote.Ref.{now}
 use Rattle.refusal.specs.RefusalLaws.{number-small}
-use Rattle.trace.specs.EndLaws.{one-short, two-short, one-whole, two-whole}
+use Rattle.trace.specs.EndLaws.{one-digit-short, two-digits-short, one-digit-written, two-digits-written}
 use native.Mathlib.Omega.{arith}
 use borrow.Author.Needs.{needs}
 use Rattle.trace.proofs.ending.refused_line.Statement.{statement}
@@ -11,7 +11,7 @@ number-requires : tie.Need-number-requires
 number-requires c κs = search needs
 
 returns : tie.Need-returns
-returns c = one-short _ _ (c .before .before .number .ensures) (now (c .before .before .before .before .args .out)) (c .before .if1 .taken) (c .if2 .taken)
+returns c = one-digit-short _ _ (c .before .before .number .ensures) (now (c .before .before .before .before .args .out)) (c .before .if1 .taken) (c .if2 .taken)
 
 slice-aggregate-put : tie.Need-slice-aggregate-put
 slice-aggregate-put c = search needs
@@ -35,10 +35,10 @@ same-length : tie.Need-same-length
 same-length c = search needs
 
 returns-2 : tie.Need-returns-2
-returns-2 c = one-whole _ _ (c .before .before .before .before .before .before .before .number .ensures) (now (c .before .before .before .before .before .before .before .before .before .args .out)) _ (c .before .before .before .before .before .before .if1 .taken) (c .before .before .before .before .before .if2 .left) (c .before .before .put .ensures)
+returns-2 c = one-digit-written _ _ (c .before .before .before .before .before .before .before .number .ensures) (now (c .before .before .before .before .before .before .before .before .before .args .out)) _ (c .before .before .before .before .before .before .if1 .taken) (c .before .before .before .before .before .if2 .left) (c .before .before .put .ensures)
 
 returns-3 : tie.Need-returns-3
-returns-3 c = two-short _ _ (c .before .before .number .ensures) (now (c .before .before .before .before .args .out)) (c .before .if1 .left) (c .if3 .taken)
+returns-3 c = two-digits-short _ _ (c .before .before .number .ensures) (now (c .before .before .before .before .args .out)) (c .before .if1 .left) (c .if3 .taken)
 
 slice-aggregate-put-2 : tie.Need-slice-aggregate-put-2
 slice-aggregate-put-2 c = search needs
@@ -74,7 +74,7 @@ same-length-2 : tie.Need-same-length-2
 same-length-2 c = search needs
 
 returns-4 : tie.Need-returns-4
-returns-4 c = two-whole _ _ (c .before .before .before .before .before .before .before .number .ensures) (now (c .before .before .before .before .before .before .before .before .before .args .out)) _ (c .before .before .before .before .before .before .if1 .left) (c .before .before .before .before .before .if3 .left) (c .before .before .put2 .ensures)
+returns-4 c = two-digits-written _ _ (c .before .before .before .before .before .before .before .number .ensures) (now (c .before .before .before .before .before .before .before .before .before .args .out)) _ (c .before .before .before .before .before .before .if1 .left) (c .before .before .before .before .before .if3 .left) (c .before .before .put2 .ensures)
 
 pub refused-line-spec : {M : Type 1} → statement M
 refused-line-spec =

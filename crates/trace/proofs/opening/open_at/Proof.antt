@@ -1,4 +1,4 @@
-use Rattle.trace.specs.StartLaws.{opens}
+use Rattle.trace.specs.StartLaws.{open-of-cells}
 use borrow.Author.Needs.{needs}
 use Rattle.trace.proofs.opening.open_at.Statement.{statement}
 use Rattle.trace.proofs.opening.open_at.Tie as tie
@@ -31,7 +31,7 @@ cell-requires-5 : tie.Need-cell-requires-5
 cell-requires-5 c κs = search needs
 
 returns : tie.Need-returns
-returns c = opens _ _ _ _ _ (c .before .before .before .before .before .before .args .settings .now) (c .before .before .before .before .before .before .args .at) (c .before .before .before .before .cell .ensures) (c .before .before .before .cell2 .ensures) (c .before .before .cell3 .ensures) (c .before .cell4 .ensures) (c .cell5 .ensures)
+returns c = open-of-cells _ _ _ _ _ (c .before .before .before .before .before .before .args .settings .now) (c .before .before .before .before .before .before .args .at) (c .before .before .before .before .cell .ensures) (c .before .before .before .cell2 .ensures) (c .before .before .cell3 .ensures) (c .before .cell4 .ensures) (c .cell5 .ensures)
 
 pub open-at-spec : {M : Type 1} → statement M
 open-at-spec =

@@ -1,5 +1,5 @@
 use denote.Ref.{now}
-use Rattle.trace.specs.WholeLaws.{whole-refused, whole-trace, ready-from}
+use Rattle.trace.specs.WholeLaws.{replay-of-refused, replay-of-trace, start-bounds-from}
 use mathlib.Core.Path.{sym, _∙_}
 use borrow.Author.Needs.{needs}
 use borrow.Author.Tests.{not-true, not-false}
@@ -20,21 +20,21 @@ same-length c = search needs
 
 returns : tie.Need-returns
 returns c =
-    let is = whole-refused (now (c .before .before .before .before .before .before .before .before .before .args .bytes)) _ _ (c .before .before .before .before .before .before .start .ensures) (c .before .before .before .before .before .passes .ensures) (not-true _ (c .before .before .before .before .if1 .taken)) in
+    let is = replay-of-refused (now (c .before .before .before .before .before .before .before .before .before .args .bytes)) _ _ (c .before .before .before .before .before .before .start .ensures) (c .before .before .before .before .before .passes .ensures) (not-true _ (c .before .before .before .before .if1 .taken)) in
     rw (is .0, is .1) (c .before .before .replay-refused .ensures)
 
 sub-replay-trace : tie.Need-sub-replay-trace
-sub-replay-trace c = ready-from (now (c .before .before .before .before .before .before .args .bytes)) _ _ (c .before .before .before .start .ensures) (c .before .before .passes .ensures) (not-false _ (c .before .if1 .left)) .there
+sub-replay-trace c = start-bounds-from (now (c .before .before .before .before .before .before .args .bytes)) _ _ (c .before .before .before .start .ensures) (c .before .before .passes .ensures) (not-false _ (c .before .if1 .left)) .there
 
 part-replay-trace-start : tie.Need-part-replay-trace-start
-part-replay-trace-start c = ready-from (now (c .before .before .before .before .before .before .args .bytes)) _ _ (c .before .before .before .start .ensures) (c .before .before .passes .ensures) (not-false _ (c .before .if1 .left)) .there
+part-replay-trace-start c = start-bounds-from (now (c .before .before .before .before .before .before .args .bytes)) _ _ (c .before .before .before .start .ensures) (c .before .before .passes .ensures) (not-false _ (c .before .if1 .left)) .there
 
 part-replay-trace-end : tie.Need-part-replay-trace-end
 part-replay-trace-end c = search needs
 
 replay-trace-requires : tie.Need-replay-trace-requires
 replay-trace-requires c κs =
-    let good = ready-from (now (c .before .before .before .before .before .before .before .before .args .bytes)) _ _ (c .before .before .before .before .before .start .ensures) (c .before .before .before .before .passes .ensures) (not-false _ (c .before .before .before .if1 .left)) in
+    let good = start-bounds-from (now (c .before .before .before .before .before .before .before .before .args .bytes)) _ _ (c .before .before .before .before .before .start .ensures) (c .before .before .before .before .passes .ensures) (not-false _ (c .before .before .before .if1 .left)) in
     (good .lanes, good .few)
 
 same-length-2 : tie.Need-same-length-2
@@ -42,7 +42,7 @@ same-length-2 c = search needs
 
 returns-2 : tie.Need-returns-2
 returns-2 c =
-    let is = whole-trace (now (c .before .before .before .before .before .before .before .before .before .before .before .args .bytes)) _ _ (c .before .before .before .before .before .before .before .before .start .ensures) (c .before .before .before .before .before .before .before .passes .ensures) (not-false _ (c .before .before .before .before .before .before .if1 .left)) in
+    let is = replay-of-trace (now (c .before .before .before .before .before .before .before .before .before .before .before .args .bytes)) _ _ (c .before .before .before .before .before .before .before .before .start .ensures) (c .before .before .before .before .before .before .before .passes .ensures) (not-false _ (c .before .before .before .before .before .before .if1 .left)) in
     rw (is .0, is .1) (c .before .before .replay-trace .ensures)
 
 pub replay-spec : {M : Type 1} → statement M

@@ -1,4 +1,4 @@
-use Rattle.trace.specs.WholeLaws.{refusal-is, lines-are, lines-fit, need-is, text-put, replayed-short, replayed-whole}
+use Rattle.trace.specs.WholeLaws.{measured-refusal, measured-lines, measured-lines-small, measured-need, text-put, replayed-short, replayed-whole}
 use mathlib.Core.Path.{_≡_, sym, subst}
 use Prim.Native.Nat.{ℕ, _≤_}
 use native.Mathlib.Omega.{arith}
@@ -17,7 +17,7 @@ mul-lines-2 : tie.Need-mul-lines-2
 mul-lines-2 c =
     let measured = c .before .before in
     let from = measured .before .before .before in
-    omega (arith, lines-fit (from .args .course) (from .args .trace .now) _ (measured .measured .ensures) (from .pre .0) (from .pre .1))
+    omega (arith, measured-lines-small (from .args .course) (from .args .trace .now) _ (measured .measured .ensures) (from .pre .0) (from .pre .1))
 
 reason-length-requires : tie.Need-reason-length-requires
 reason-length-requires c κs = search needs
@@ -26,21 +26,21 @@ add-need : tie.Need-add-need
 add-need c =
     let measured = c .before .before .before in
     let from = measured .before .before .before in
-    omega (arith, lines-fit (from .args .course) (from .args .trace .now) _ (measured .measured .ensures) (from .pre .0) (from .pre .1), c .reason-length .ensures .1)
+    omega (arith, measured-lines-small (from .args .course) (from .args .trace .now) _ (measured .measured .ensures) (from .pre .0) (from .pre .1), c .reason-length .ensures .1)
 
 returns : tie.Need-returns
 returns c =
     let long = c .before in
     let measured = long .before .before .before in
     let from = measured .before .before .before in
-    replayed-short _ _ _ _ _ (refusal-is (from .args .course) (from .args .trace .now) _ (measured .measured .ensures)) (need-is (from .args .course) (from .args .trace .now) _ (measured .measured .ensures) _ (long .reason-length .ensures .0)) (c .if1 .taken)
+    replayed-short _ _ _ _ _ (measured-refusal (from .args .course) (from .args .trace .now) _ (measured .measured .ensures)) (measured-need (from .args .course) (from .args .trace .now) _ (measured .measured .ensures) _ (long .reason-length .ensures .0)) (c .if1 .taken)
 
 print-all-requires : tie.Need-print-all-requires
 print-all-requires c κs =
     let first = c .before in
     let measured = first .before .before .before .before in
     let from = measured .before .before .before in
-    subst (λ (n : ℕ). n ≤ length (from .args .out .now)) (lines-are (from .args .course) (from .args .trace .now) _ (measured .measured .ensures)) (omega (arith, first .if1 .left))
+    subst (λ (n : ℕ). n ≤ length (from .args .out .now)) (measured-lines (from .args .course) (from .args .trace .now) _ (measured .measured .ensures)) (omega (arith, first .if1 .left))
 
 sub-reason-line : tie.Need-sub-reason-line
 sub-reason-line c = search needs
@@ -65,7 +65,7 @@ returns-2 c =
     let long = first .before in
     let measured = long .before .before .before in
     let from = measured .before .before .before in
-    replayed-whole _ _ _ _ _ (refusal-is (from .args .course) (from .args .trace .now) _ (measured .measured .ensures)) (need-is (from .args .course) (from .args .trace .now) _ (measured .measured .ensures) _ (long .reason-length .ensures .0)) _ (first .if1 .left)
+    replayed-whole _ _ _ _ _ (measured-refusal (from .args .course) (from .args .trace .now) _ (measured .measured .ensures)) (measured-need (from .args .course) (from .args .trace .now) _ (measured .measured .ensures) _ (long .reason-length .ensures .0)) _ (first .if1 .left)
     (text-put (from .args .course) (from .args .trace .now) _ (measured .measured .ensures) (from .args .out .now) _ _ _ (long .reason-length .ensures .0) (first .if1 .left) (printed .print-all .ensures) (reason .reason-line .ensures .1))
 
 pub replay-trace-spec : {M : Type 1} → statement M

@@ -36,30 +36,30 @@ pub lane-of : {A : Type 0} (L : ℕ) (xs : List A) (d : A) → L < length xs →
 lane-of L xs d h = rw zero-add at (turn-at L 0 xs d h)
 
 -- n things one after the other, each read from w bytes
-unfoldable pub each : {A : Type 0} → (List ℕ → A) → ℕ → ℕ → List ℕ → List A
-each f w zero s = []
-each f w (suc n) s = f s ∷ each f w n (drop w s)
+unfoldable pub readEach : {A : Type 0} → (List ℕ → A) → ℕ → ℕ → List ℕ → List A
+readEach f w zero s = []
+readEach f w (suc n) s = f s ∷ readEach f w n (drop w s)
 
-pub each-length : {A : Type 0} (f : List ℕ → A) (w n : ℕ) (s : List ℕ) → length (each f w n s) ≡ n
-unfolding each
+pub each-length : {A : Type 0} (f : List ℕ → A) (w n : ℕ) (s : List ℕ) → length (readEach f w n s) ≡ n
+unfolding readEach
 each-length f w zero s = refl
 each-length f w (suc n) s = ap suc (each-length f w n (drop w s))
 
-pub each-at : {A : Type 0} (f : List ℕ → A) (w n : ℕ) (s : List ℕ) (i : ℕ) (d : A) → i < n → getD (each f w n s) i d ≡ f (drop (i * w) s)
-unfolding each
+pub each-at : {A : Type 0} (f : List ℕ → A) (w n : ℕ) (s : List ℕ) (i : ℕ) (d : A) → i < n → getD (readEach f w n s) i d ≡ f (drop (i * w) s)
+unfolding readEach
 each-at f w zero s i d h = absurd (omega arith)
 each-at f w (suc n) s zero d h = rw (zero-mul w)
 each-at f w (suc n) s (suc i) d h =
     each-at f w n (drop w s) i d (omega arith) ∙ rw (suc-mul i w, add-comm (i * w) w, drop-drop)
 
-pub lane-of-each : {A : Type 0} (f : List ℕ → A) (w n : ℕ) (s : List ℕ) (L : ℕ) → L < n → ofLane L (inTurn 0 (each f w n s)) ≡ f (drop (L * w) s) ∷ []
+pub lane-of-each : {A : Type 0} (f : List ℕ → A) (w n : ℕ) (s : List ℕ) (L : ℕ) → L < n → ofLane L (inTurn 0 (readEach f w n s)) ≡ f (drop (L * w) s) ∷ []
 lane-of-each f w n s L h =
     let len = each-length f w n s in
-    lane-of L (each f w n s) (f s) (omega arith) ∙ ap (λ (x : _). x ∷ []) (each-at f w n s L (f s) h)
+    lane-of L (readEach f w n s) (f s) (omega arith) ∙ ap (λ (x : _). x ∷ []) (each-at f w n s L (f s) h)
 
 -- they are read from their own bytes alone
-pub each-take : {A : Type 0} (f : List ℕ → A) (w n m : ℕ) (s : List ℕ) → ((m : ℕ) (s : List ℕ) → w ≤ m → f (take m s) ≡ f s) → n * w ≤ m → each f w n (take m s) ≡ each f w n s
-unfolding each
+pub each-take : {A : Type 0} (f : List ℕ → A) (w n m : ℕ) (s : List ℕ) → ((m : ℕ) (s : List ℕ) → w ≤ m → f (take m s) ≡ f s) → n * w ≤ m → readEach f w n (take m s) ≡ readEach f w n s
+unfolding readEach
 each-take f w zero m s own h = refl
 each-take f w (suc n) m s own h =
     let b : suc n * w ≡ n * w + w = suc-mul n w in

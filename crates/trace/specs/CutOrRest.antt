@@ -26,22 +26,22 @@ use Rattle.rows.specs.Rows.{firstRefusal}
 use Rattle.rows.specs.LaneByLaneLaws.{own-turn}
 use Rattle.rows.specs.ReadyLanes.{first-ready, first-kept}
 use Rattle.trace.specs.declared.course.Course.{Course}
-use Rattle.trace.specs.Trace.{startOf, replayRefusal, rowWidth, rowCalls, rowOn, onRows, formRefusal, rowRefusal, courseRefusal}
-use Rattle.trace.specs.Taken.{CanTake, row-count, width-on, rows-cut, spent-rest, spent-row, on-left, on-width}
+use Rattle.trace.specs.Trace.{startOf, replayRefusal, rowWidth, rowCalls, afterRow, afterRows, formRefusal, rowRefusal, courseRefusal}
+use Rattle.trace.specs.Taken.{CanTake, row-count, after-row-width, rows-cut, spent-rest, spent-row, after-left, after-width}
 use Rattle.trace.specs.RowsLaws.{form-is, row-there, row-short}
-use Rattle.trace.specs.MeasureLaws.{rest-of, rest-some, rest-none}
-use Rattle.trace.specs.TraceLaws.{rowsOf, started, some-bytes, accepted-refusal, firstHead, secondHead}
+use Rattle.trace.specs.MeasureLaws.{rest-refusal-of, rest-some, rest-none}
+use Rattle.trace.specs.TraceLaws.{bytesAfterStart, accepted-start, row-has-bytes, accepted-refusal, firstHead, secondHead}
 use Rattle.trace.specs.Columns.{controllerAt, settingsOf, opened-lies}
 
 -- ---- a course whose lanes are open
 
 -- it can have rows, and no update of a lane of its rows is refused
-pub record Open (c : Course) : Type 0 where
+pub record OpenCourse (c : Course) : Type 0 where
   pub form : passes (formRefusal (c .kind) (c .lanes)) ≡ true
   pub eight : Eight (c .bank)
   pub lanes : (i : ℕ) → i < c .lanes → passes (updateRefusal (c .bank) i) ≡ true
 
-module _ (c : Course) (s : List ℕ) (o : Open c) where
+module _ (c : Course) (s : List ℕ) (o : OpenCourse c) where
   row-all : take (c .lanes) (rowCalls c s) ≡ rowCalls c s
   row-all = take-all (c .lanes) (rowCalls c s) (rw (row-count c s) (omega arith))
 
@@ -59,8 +59,8 @@ module _ (c : Course) (s : List ℕ) (o : Open c) where
   unfolding passes
   open-row h = ap passes (row-there c s (o .form) h .0 ∙ updates-pass)
 
-  pub open-on : (n : ℕ) → Open (rowOn c n s)
-  unfolding rowOn rowCalls
+  pub open-on : (n : ℕ) → OpenCourse (afterRow c n s)
+  unfolding afterRow rowCalls
   open-on n =
       let cells = cellsOf (c .kind) (c .lanes * 3) s in
       record {
@@ -69,21 +69,21 @@ module _ (c : Course) (s : List ℕ) (o : Open c) where
         lanes = λ i h. ap passes (ap (λ (calls : _). updateRefusal (after (c .bank) calls) i) (sym row-all) ∙ first-kept (c .lanes) (c .lanes) 0 cells (c .bank) (o .eight) i) ∙ o .lanes i h;
       }
 
-pub open-rows : (n : ℕ) (c : Course) (s : List ℕ) → Open c → Open (onRows n c s)
-unfolding onRows
+pub open-rows : (n : ℕ) (c : Course) (s : List ℕ) → OpenCourse c → OpenCourse (afterRows n c s)
+unfolding afterRows
 open-rows zero c s o = o
-open-rows (suc n) c s o = open-rows n (rowOn c (c .left - 1) s) (drop (rowWidth c) s) (open-on c s o (c .left - 1))
+open-rows (suc n) c s o = open-rows n (afterRow c (c .left - 1) s) (drop (rowWidth c) s) (open-on c s o (c .left - 1))
 
 -- rows that are left and there whole can be taken
-pub open-take : (n : ℕ) (c : Course) (s : List ℕ) → Open c → n ≤ c .left → n * rowWidth c ≤ length s → CanTake n c s
-unfolding CanTake rowOn
-open-take zero c s o l h = tt
-open-take (suc n) c s o l h =
+pub open-can-take : (n : ℕ) (c : Course) (s : List ℕ) → OpenCourse c → n ≤ c .left → n * rowWidth c ≤ length s → CanTake n c s
+unfolding CanTake afterRow
+open-can-take zero c s o l h = tt
+open-can-take (suc n) c s o l h =
     let wide : n * rowWidth c + rowWidth c ≤ length s = rw suc-mul at h in
-    let on : n * rowWidth (rowOn c (c .left - 1) s) ≤ length (drop (rowWidth c) s) = rw (width-on c (c .left - 1) s, length-drop) (omega arith) in
-    (omega arith, open-row c s o (omega arith), open-take n (rowOn c (c .left - 1) s) (drop (rowWidth c) s) (open-on c s o (c .left - 1)) (less-left n c s l) on)
+    let on : n * rowWidth (afterRow c (c .left - 1) s) ≤ length (drop (rowWidth c) s) = rw (after-row-width c (c .left - 1) s, length-drop) (omega arith) in
+    (omega arith, open-row c s o (omega arith), open-can-take n (afterRow c (c .left - 1) s) (drop (rowWidth c) s) (open-on c s o (c .left - 1)) (less-left n c s l) on)
   where
-    less-left : (n : ℕ) (c : Course) (s : List ℕ) → suc n ≤ c .left → n ≤ rowOn c (c .left - 1) s .left
+    less-left : (n : ℕ) (c : Course) (s : List ℕ) → suc n ≤ c .left → n ≤ afterRow c (c .left - 1) s .left
     less-left n c s l = omega arith
 
 -- ---- a file whose start is accepted
@@ -94,10 +94,10 @@ unfolding updateRefusal passes
 lies-open b i s h l = rw (le-ltb 7 i h, l .here, l .good)
 
 module _ (s : List ℕ) (e : passes (startOf s .refusal) ≡ true) where
-  pub start-open : Open (startOf s .course)
+  pub start-open : OpenCourse (startOf s .course)
   unfolding controllerAt
   start-open =
-      let g = started s e in
+      let g = accepted-start s e in
       let few = g .settings .few in
       let lies : (i : ℕ) → i < firstHead s .rows → Lies i (startOf s .course .bank) (controllerAt (settingsOf s) i) = λ i h. rw (g .bank) (opened-lies (firstHead s .rows) (settingsOf s) i few h) in
       record {
@@ -107,44 +107,44 @@ module _ (s : List ℕ) (e : passes (startOf s .refusal) ≡ true) where
       }
 
   -- rows that its bytes have, and no more than its header says, can be taken
-  pub file-take : (m : ℕ) → m ≤ startOf s .course .left → m * rowWidth (startOf s .course) ≤ length (rowsOf s) → CanTake m (startOf s .course) (rowsOf s)
-  file-take m = open-take m (startOf s .course) (rowsOf s) start-open
+  pub file-take : (m : ℕ) → m ≤ startOf s .course .left → m * rowWidth (startOf s .course) ≤ length (bytesAfterStart s) → CanTake m (startOf s .course) (bytesAfterStart s)
+  file-take m = open-can-take m (startOf s .course) (bytesAfterStart s) start-open
 
   -- what it is refused with, after these
-  refused-after : (m : ℕ) → m ≤ startOf s .course .left → m * rowWidth (startOf s .course) ≤ length (rowsOf s)
-      → replayRefusal s ≡ courseRefusal (onRows m (startOf s .course) (rowsOf s)) (drop (m * rowWidth (startOf s .course)) (rowsOf s))
-  refused-after m l h = accepted-refusal s e ∙ rows-cut m (startOf s .course) (rowsOf s) (file-take m l h) .1
+  refused-after : (m : ℕ) → m ≤ startOf s .course .left → m * rowWidth (startOf s .course) ≤ length (bytesAfterStart s)
+      → replayRefusal s ≡ courseRefusal (afterRows m (startOf s .course) (bytesAfterStart s)) (drop (m * rowWidth (startOf s .course)) (bytesAfterStart s))
+  refused-after m l h = accepted-refusal s e ∙ rows-cut m (startOf s .course) (bytesAfterStart s) (file-take m l h) .1
 
   -- 15 where a row is missing
-  pub file-cut : length (rowsOf s) < startOf s .course .left * rowWidth (startOf s .course) → replayRefusal s ≡ Refusal.Cut
+  pub file-cut : length (bytesAfterStart s) < startOf s .course .left * rowWidth (startOf s .course) → replayRefusal s ≡ Refusal.Cut
   unfolding passes
   file-cut h =
       let c = startOf s .course in
       let w : ℕ = rowWidth (startOf s .course) in
-      let m : ℕ = length (rowsOf s) / rowWidth (startOf s .course) in
-      let fits : m * w ≤ length (rowsOf s) = div-mul-le-self (length (rowsOf s)) w in
-      let less : m < c .left = less-rows m w (c .left) (length (rowsOf s)) fits h in
-      let there : Course = onRows m c (rowsOf s) in
-      let rest : List ℕ = drop (m * rowWidth c) (rowsOf s) in
-      let more : 0 < onRows m c (rowsOf s) .left = rw (on-left m c (rowsOf s)) (omega arith) in
-      let past : length (rowsOf s) < m * w + w = lt-div-mul-add (some-bytes s (started s e)) in
-      let short : length (drop (m * rowWidth c) (rowsOf s)) < rowWidth (onRows m c (rowsOf s)) = rw (length-drop (m * rowWidth c) (rowsOf s), on-width m c (rowsOf s)) (omega arith) in
-      let cut : rowRefusal (onRows m c (rowsOf s)) (drop (m * rowWidth c) (rowsOf s)) ≡ Refusal.Cut = row-short there rest (open-rows m c (rowsOf s) start-open .form) short .0 in
+      let m : ℕ = length (bytesAfterStart s) / rowWidth (startOf s .course) in
+      let fits : m * w ≤ length (bytesAfterStart s) = div-mul-le-self (length (bytesAfterStart s)) w in
+      let less : m < c .left = less-rows m w (c .left) (length (bytesAfterStart s)) fits h in
+      let there : Course = afterRows m c (bytesAfterStart s) in
+      let rest : List ℕ = drop (m * rowWidth c) (bytesAfterStart s) in
+      let more : 0 < afterRows m c (bytesAfterStart s) .left = rw (after-left m c (bytesAfterStart s)) (omega arith) in
+      let past : length (bytesAfterStart s) < m * w + w = lt-div-mul-add (row-has-bytes s (accepted-start s e)) in
+      let short : length (drop (m * rowWidth c) (bytesAfterStart s)) < rowWidth (afterRows m c (bytesAfterStart s)) = rw (length-drop (m * rowWidth c) (bytesAfterStart s), after-width m c (bytesAfterStart s)) (omega arith) in
+      let cut : rowRefusal (afterRows m c (bytesAfterStart s)) (drop (m * rowWidth c) (bytesAfterStart s)) ≡ Refusal.Cut = row-short there rest (open-rows m c (bytesAfterStart s) start-open .form) short .0 in
       refused-after m (omega arith) fits ∙ spent-row there rest more (ap passes cut) ∙ cut
     where
       less-rows : (m w left len : ℕ) → m * w ≤ len → len < left * w → m < left
       less-rows m w left len f h = ⊎-elim (λ (g : m < left). g) (λ (g : left ≤ m). let z : left * w ≤ m * w = mul-le-mul-right w g in absurd (omega arith)) (lt-or-le m left)
 
   -- 16 where bytes follow the last row
-  pub file-rest : startOf s .course .left * rowWidth (startOf s .course) < length (rowsOf s) → replayRefusal s ≡ Refusal.Rest
+  pub file-rest : startOf s .course .left * rowWidth (startOf s .course) < length (bytesAfterStart s) → replayRefusal s ≡ Refusal.Rest
   file-rest h =
       let c = startOf s .course in
-      refused-after (c .left) (omega arith) (omega arith) ∙ spent-rest (onRows (c .left) c (rowsOf s)) (drop (c .left * rowWidth c) (rowsOf s)) (on-left (c .left) c (rowsOf s) ∙ omega arith)
-      ∙ rest-of (drop (c .left * rowWidth c) (rowsOf s)) ∙ rest-some (rw length-drop (omega arith))
+      refused-after (c .left) (omega arith) (omega arith) ∙ spent-rest (afterRows (c .left) c (bytesAfterStart s)) (drop (c .left * rowWidth c) (bytesAfterStart s)) (after-left (c .left) c (bytesAfterStart s) ∙ omega arith)
+      ∙ rest-refusal-of (drop (c .left * rowWidth c) (bytesAfterStart s)) ∙ rest-some (rw length-drop (omega arith))
 
   -- and nothing where neither is so
-  pub file-none : length (rowsOf s) ≡ startOf s .course .left * rowWidth (startOf s .course) → replayRefusal s ≡ Refusal.None
+  pub file-none : length (bytesAfterStart s) ≡ startOf s .course .left * rowWidth (startOf s .course) → replayRefusal s ≡ Refusal.None
   file-none h =
       let c = startOf s .course in
-      refused-after (c .left) (omega arith) (omega arith) ∙ spent-rest (onRows (c .left) c (rowsOf s)) (drop (c .left * rowWidth c) (rowsOf s)) (on-left (c .left) c (rowsOf s) ∙ omega arith)
-      ∙ rest-of (drop (c .left * rowWidth c) (rowsOf s)) ∙ rest-none (rw length-drop (omega arith))
+      refused-after (c .left) (omega arith) (omega arith) ∙ spent-rest (afterRows (c .left) c (bytesAfterStart s)) (drop (c .left * rowWidth c) (bytesAfterStart s)) (after-left (c .left) c (bytesAfterStart s) ∙ omega arith)
+      ∙ rest-refusal-of (drop (c .left * rowWidth c) (bytesAfterStart s)) ∙ rest-none (rw length-drop (omega arith))
