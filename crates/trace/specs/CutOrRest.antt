@@ -28,10 +28,11 @@ use Rattle.rows.specs.ReadyLanes.{first-ready, first-kept}
 use Rattle.trace.specs.declared.course.Course.{Course}
 use Rattle.trace.specs.Trace.{startOf, replayRefusal, rowWidth, rowCalls, afterRow, afterRows, formRefusal, rowRefusal, courseRefusal}
 use Rattle.trace.specs.Taken.{CanTake, row-count, after-row-width, rows-cut, spent-rest, spent-row, after-left, after-width}
-use Rattle.trace.specs.RowsLaws.{form-is, row-there, row-short}
+use Rattle.trace.specs.RowRefusalLaws.{form-is, row-there, row-short}
 use Rattle.trace.specs.MeasureLaws.{rest-refusal-of, rest-some, rest-none}
-use Rattle.trace.specs.TraceLaws.{bytesAfterStart, accepted-start, row-has-bytes, accepted-refusal, firstHead, secondHead}
-use Rattle.trace.specs.Columns.{controllerAt, settingsOf, opened-lies}
+use Rattle.trace.specs.AcceptedStart.{bytesAfterStart, accepted-start, row-has-bytes, firstHead, secondHead}
+use Rattle.trace.specs.WholeFile.{accepted-refusal}
+use Rattle.trace.specs.LaneCells.{controllerAt, settingsOf, opened-lies}
 
 -- ---- a course whose lanes are open
 

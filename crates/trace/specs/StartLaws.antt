@@ -28,7 +28,7 @@ use Rattle.lanes.specs.Runs.{left}
 use Rattle.trace.specs.declared.course.Begun.{Begun}
 use Rattle.trace.specs.LanesInTurn.{inTurn, readEach}
 use Rattle.trace.specs.Trace.{isF4, settingsRefusal, openOf, openedBank, traceRefusal, refusedStart, unless, traceStart, startOf}
-use Rattle.trace.specs.TraceLaws.{AcceptedSettings, settings-parts}
+use Rattle.trace.specs.AcceptedStart.{AcceptedSettings, settings-parts}
 
 -- ---- the settings, test by test
 

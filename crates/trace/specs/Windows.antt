@@ -1,34 +1,23 @@
--- The windows theorem: a reader that takes the input in parts, of any sizes, prints what the whole file means. And the start of a file is
--- decided by its first bytes. Assumes nothing.
+-- The windows theorem: a reader that takes a trace in parts, of any sizes, prints what the whole trace means. Assumes nothing.
 use mathlib.Core.Path.{_≡_, refl, sym, ap, _∙_}
 use mathlib.Core.List.{List, [], _∷_, _++_, append-assoc, append-nil}
-use mathlib.Core.Bool.{Bool, true, false, cond, _&&_}
+use mathlib.Core.Bool.{Bool, true, false}
 use mathlib.Core.Logic.{_⊎_, inl, inr, ⊎-elim}
-use Prim.Native.Nat.{ℕ, zero, suc, _+_, _-_, _*_, _≤_, _<_, min}
+use Prim.Native.Nat.{ℕ, zero, suc, _+_, _-_, _*_, _≤_, _<_}
 use native.Mathlib.Omega.{arith}
-use lib.Dec.{leb, eqb}
-use lib.ListN.{length, take, drop, length-take, length-append}
+use lib.ListN.{length, take, drop, length-append}
 use lib.Seq.{take-append-seam, drop-append-le}
-use borrow.Author.Tests.{leb-true, le-ltb}
+use borrow.Author.Tests.{le-ltb}
 use Rattle.lemmas.specs.Cases.{lt-or-le}
 use Rattle.refusal.specs.declared.Refusal.{Refusal}
 use Rattle.refusal.specs.declared.Refusal.the-variants as Refusal
 use Rattle.refusal.specs.Refusal.{passes}
-use Rattle.npy.specs.declared.reader.Kind.{Kind}
-use Rattle.npy.specs.declared.reader.Kind.the-variants.{F4}
-use Rattle.npy.specs.declared.reader.Head.{Head}
-use Rattle.npy.specs.Header.{headerOf, isAccepted}
-use Rattle.npy.specs.HeaderLaws.{drop-take, at-within}
-use Rattle.npy.specs.HeaderStart.{leb-take, window-decides}
-use Rattle.npy.specs.CellLaws.{cell-start, cells-take}
-use Rattle.bank.specs.declared.Bank.{Bank}
+use Rattle.npy.specs.CellLaws.{cells-take}
 use Rattle.trace.specs.declared.course.Course.{Course}
-use Rattle.trace.specs.LanesInTurn.{each-take}
-use Rattle.trace.specs.Trace.{isF4, settingsBytes, settingsRefusal, openOf, openedBank, refusedStart, unless, traceStart, startOf, replayOf, refusedLine, reasonText, rowWidth, rowCalls, rowLine, afterRow, rowLines, afterRows, formRefusal, cutRefusal, rowRefusal, courseRefusal, courseText}
+use Rattle.trace.specs.Trace.{refusedLine, reasonText, rowWidth, rowCalls, rowLine, afterRow, rowLines, afterRows, formRefusal, cutRefusal, rowRefusal, courseRefusal, courseText}
 use Rattle.trace.specs.Taken.{CanTake, Spent, take-bytes, row-taken, text-cut, spent-lines, spent-rest, spent-row, spent-text, mostRows, most-rows}
-use Rattle.trace.specs.RowsLaws.{row-short, row-formless}
+use Rattle.trace.specs.RowRefusalLaws.{row-short, row-formless}
 use Rattle.trace.specs.MeasureLaws.{rest-refusal-of, rest-some}
-use Rattle.trace.specs.TraceLaws.{settings-parts, secondAt, accepted-start, start-within}
 
 -- ---- rows are read from their own bytes alone
 
@@ -179,119 +168,3 @@ pub at-once-joined : (parts : List (List ℕ)) (c : Course) (kept : List ℕ) �
 unfolding atOnce joined allOf
 at-once-joined [] c kept = refl
 at-once-joined (bytes ∷ more) c kept = ap (λ (l : List ℕ). bytes ++ l) (at-once-joined more _ _)
-
--- ---- the start: two headers, of at most 1,012 bytes each, and the settings of eight lanes decide it
-
-abbrev pub startBytes : ℕ
-startBytes = 2184
-
--- the data of an array begin at byte 1,012 at the latest
-pub at-small : (s : List ℕ) → headerOf s .at ≤ 1012
-at-small s =
-    let h : headerOf (take 1012 s) .at ≤ min 1012 (length s) = rw length-take at (at-within (take 1012 s)) in
-    let e : headerOf (take 1012 s) .at ≡ headerOf s .at = ap (λ (x : Head). x .at) (window-decides 1012 s (omega arith)) in
-    omega arith
-
-trace-take : (k : ℕ) (b : Bank) (at n : ℕ) (s : List ℕ) → at + 1012 ≤ n → traceStart k b at (take n s) ≡ traceStart k b at s
-unfolding traceStart
-trace-take k b at n s h =
-    let e : headerOf (drop at (take n s)) ≡ headerOf (drop at s) = rw (drop-take at n s) (window-decides (n - at) (drop at s) (omega arith)) in
-    rw e
-
-open-of-take : (m : ℕ) (s : List ℕ) → 20 ≤ m → openOf (take m s) ≡ openOf s
-unfolding openOf
-open-of-take m s h =
-    rw (drop-take 4 m s, drop-take 8 m s, drop-take 12 m s, drop-take 16 m s, cell-start F4 m s (omega arith), cell-start F4 (m - 4) (drop 4 s) (omega arith), cell-start F4 (m - 8) (drop 8 s) (omega arith), cell-start F4 (m - 12) (drop 12 s) (omega arith), cell-start F4 (m - 16) (drop 16 s) (omega arith))
-
-opened-take : (k at n : ℕ) (s : List ℕ) → at + k * 20 ≤ n → openedBank k (drop at (take n s)) ≡ openedBank k (drop at s)
-unfolding openedBank
-opened-take k at n s h = rw (drop-take at n s, each-take openOf 20 k (n - at) (drop at s) open-of-take (omega arith))
-
-settings-take : (n : ℕ) (s : List ℕ) (h : Head) → h .at + 160 ≤ n → settingsRefusal h (length (take n s)) ≡ settingsRefusal h (length s)
-unfolding settingsRefusal
-settings-take n s h l = go (leb 1 (h .rows)) (leb (h .rows) 8) refl (eqb (h .cols) 5)
-  where
-    X : Bool → Refusal
-    X t = cond t Refusal.None Refusal.Cut
-
-    same : h .rows ≤ 8 → leb (h .at + settingsBytes (h .rows)) (length (take n s)) ≡ leb (h .at + settingsBytes (h .rows)) (length s)
-    same m = leb-take (h .at + settingsBytes (h .rows)) n s (omega arith)
-
-    go : (a b : Bool) → leb (h .rows) 8 ≡ b → (d : Bool)
-        → cond (isAccepted h) (cond (isF4 (h .kind)) (cond (a && (b && d)) (X (leb (h .at + settingsBytes (h .rows)) (length (take n s)))) Refusal.Shape) Refusal.Kind) (h .refusal)
-        ≡ cond (isAccepted h) (cond (isF4 (h .kind)) (cond (a && (b && d)) (X (leb (h .at + settingsBytes (h .rows)) (length s))) Refusal.Shape) Refusal.Kind) (h .refusal)
-    go true true e d = rw (same (leb-true (h .rows) 8 e))
-    go true false e d = refl
-    go false b e d = refl
-
-pub start-take : (n : ℕ) (s : List ℕ) → startBytes ≤ n → startOf (take n s) ≡ startOf s
-unfolding startOf unless
-start-take n s h =
-    rw (window-decides n s (omega arith), settings-take n s (headerOf s) (omega (arith, at-small s)))
-    (go (passes (settingsRefusal (headerOf s) (length s))) refl)
-  where
-    go : (t : Bool) → passes (settingsRefusal (headerOf s) (length s)) ≡ t
-        → cond (passes (settingsRefusal (headerOf s) (length s)))
-        (traceStart (headerOf s .rows) (openedBank (headerOf s .rows) (drop (headerOf s .at) (take n s))) (secondAt s) (take n s))
-        (refusedStart (settingsRefusal (headerOf s) (length s)))
-        ≡ cond (passes (settingsRefusal (headerOf s) (length s)))
-        (traceStart (headerOf s .rows) (openedBank (headerOf s .rows) (drop (headerOf s .at) s)) (secondAt s) s)
-        (refusedStart (settingsRefusal (headerOf s) (length s)))
-    go false e = rw e
-    go true e =
-        let p = settings-parts (headerOf s) (length s) e in
-        rw (
-          e,
-          trace-take (headerOf s .rows) (openedBank (headerOf s .rows) (drop (headerOf s .at) (take n s))) (secondAt s) n s (omega (arith, p .few, at-small s)),
-          opened-take (headerOf s .rows) (headerOf s .at) n s (omega (arith, p .few, at-small s)),
-        )
-
--- ---- the whole file
-
--- a reader that knows the start from what it read first, and prints the rows behind it and of what it reads then
-unfoldable pub streamed : List ℕ → List Window → List ℕ
-streamed first ws =
-    let b = startOf first in
-    cond (passes (b .refusal)) (windowed (b .course) (drop (b .at) first) ws) (refusedLine (b .refusal))
-
--- it has read enough: the bytes of a start or more, or all that there is
-abbrev pub Enough : List ℕ → List ℕ → Type 0
-Enough first rest = (startBytes ≤ length first) ⊎ (rest ≡ [])
-
-pub start-early : (first rest : List ℕ) → Enough first rest → startOf first ≡ startOf (first ++ rest)
-start-early first rest h =
-    ⊎-elim
-    (λ (l : startBytes ≤ length first). rw (take-append-seam first rest) at (start-take (length first) (first ++ rest) l))
-    (λ (e : rest ≡ []). rw (e, append-nil first))
-    h
-
--- and prints what the file means
-pub streamed-theorem : (first : List ℕ) (ws : List Window) → Enough first (joined ws)
-    → (passes (startOf first .refusal) ≡ true → Allowed (startOf first .course) (drop (startOf first .at) first) ws)
-    → streamed first ws ≡ replayOf (first ++ joined ws)
-unfolding streamed replayOf
-streamed-theorem first ws enough allowed = rw (← start-early first (joined ws) enough) (go (passes (startOf first .refusal)) refl)
-  where
-    go : (t : Bool) → passes (startOf first .refusal) ≡ t
-        → cond (passes (startOf first .refusal)) (windowed (startOf first .course) (drop (startOf first .at) first) ws) (refusedLine (startOf first .refusal))
-        ≡ cond (passes (startOf first .refusal)) (courseText (startOf first .course) (drop (startOf first .at) (first ++ joined ws))) (refusedLine (startOf first .refusal))
-    go false e = rw e
-    go true e =
-        rw (e, drop-append-le (startOf first .at) first (joined ws) (start-within first (accepted-start first e)))
-        (windows-theorem ws (startOf first .course) (drop (startOf first .at) first) (allowed e))
-
--- such a reader's windows where it prints all the rows it holds, first those behind the start
-abbrev pub plainly : List ℕ → List (List ℕ) → List Window
-plainly first parts = atOnce (startOf first .course) (drop (startOf first .at) first) ([] ∷ parts)
-
-pub plainly-theorem : (first : List ℕ) (parts : List (List ℕ)) → Enough first (allOf parts) → streamed first (plainly first parts) ≡ replayOf (first ++ allOf parts)
-unfolding allOf
-plainly-theorem first parts enough =
-    let same : joined (plainly first parts) ≡ allOf parts = at-once-joined ([] ∷ parts) (startOf first .course) (drop (startOf first .at) first) in
-    streamed-theorem first (plainly first parts) (rw same enough)
-    (λ (e : passes (startOf first .refusal) ≡ true).
-    at-once-allowed ([] ∷ parts) (startOf first .course) (drop (startOf first .at) first) (λ (z : [] ∷ parts ≡ []). absurd (nothing z)))
-    ∙ ap (λ (l : List ℕ). replayOf (first ++ l)) same
-  where
-    nothing : _≡_ {A = List (List ℕ)} ([] ∷ parts) [] → ⊥
-    nothing z = let y : _≡_ {A = ℕ} 0 1 = cc in omega arith

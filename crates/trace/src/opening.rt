@@ -5,7 +5,7 @@ ghost use mathlib.Core.Bool.{_&&_};
 ghost use lib.Dec.{leb, eqb};
 ghost use lib.ListN.{length, drop};
 ghost use Rattle.npy.specs.Header.{hasCells};
-ghost use Rattle.trace.specs.Windows.{startBytes};
+ghost use Rattle.trace.specs.StartBytes.{startBytes};
 ghost use Rattle.trace.specs.Trace.{isF4, settingsRefusal, openOf, openedBank, traceRefusal, refusedStart, traceStart, startOf};
 use crate::course::Begun;
 use crate::course::Course;

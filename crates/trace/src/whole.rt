@@ -6,7 +6,7 @@ ghost use lib.ListN.{length};
 ghost use lib.Seq.{sets};
 ghost use Rattle.trace.specs.Trace.{refusedLine, reasonText, courseRefusal, courseLines, courseText, replayOf, replayRefusal};
 ghost use Rattle.trace.specs.Slices.{replayedOf, wrote};
-ghost use Rattle.trace.specs.WholeLaws.{Printable};
+ghost use Rattle.trace.specs.PrintLaws.{Printable};
 ghost use Rattle.refusal.specs.Refusal.{passes};
 use crate::course::Course;
 use crate::course::Replayed;

@@ -2,7 +2,7 @@ use Rattle.lemmas.specs.Lists.{as-long-still}
 use Rattle.trace.specs.Trace.{courseLines}
 use Rattle.trace.specs.Slices.{rowCells, rowValues}
 use Rattle.trace.specs.MeasureLaws.{there-here, fewer-left}
-use Rattle.trace.specs.WholeLaws.{Printing, print-start, print-refused, print-none, print-on, print-done}
+use Rattle.trace.specs.PrintLaws.{Printing, print-start, print-refused, print-none, print-on, print-done}
 use mathlib.Core.Path.{_≡_, refl, sym, ap, _∙_}
 use native.Mathlib.Omega.{arith}
 use lib.ListN.{length}

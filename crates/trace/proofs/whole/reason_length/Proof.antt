@@ -1,4 +1,4 @@
-use Rattle.trace.specs.WholeLaws.{no-line, short-line, long-line}
+use Rattle.trace.specs.ReplayLaws.{no-line, short-line, long-line}
 use borrow.Author.Needs.{needs}
 use Rattle.trace.proofs.whole.reason_length.Statement.{statement}
 use Rattle.trace.proofs.whole.reason_length.Tie as tie

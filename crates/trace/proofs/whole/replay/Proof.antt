@@ -1,5 +1,5 @@
 use denote.Ref.{now}
-use Rattle.trace.specs.WholeLaws.{replay-of-refused, replay-of-trace, start-bounds-from}
+use Rattle.trace.specs.ReplayLaws.{replay-of-refused, replay-of-trace, start-bounds-from}
 use mathlib.Core.Path.{sym, _∙_}
 use borrow.Author.Needs.{needs}
 use borrow.Author.Tests.{not-true, not-false}

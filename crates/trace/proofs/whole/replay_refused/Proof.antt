@@ -1,4 +1,4 @@
-use Rattle.trace.specs.WholeLaws.{refused-answer}
+use Rattle.trace.specs.ReplayLaws.{refused-answer}
 use borrow.Author.Needs.{needs}
 use Rattle.trace.proofs.whole.replay_refused.Statement.{statement}
 use Rattle.trace.proofs.whole.replay_refused.Tie as tie

@@ -1,4 +1,4 @@
-use Rattle.trace.specs.WholeLaws.{measured-refusal, measured-lines, measured-lines-small, measured-need, text-put, replayed-short, replayed-whole}
+use Rattle.trace.specs.ReplayLaws.{measured-refusal, measured-lines, measured-lines-small, measured-need, text-put, replayed-short, replayed-whole}
 use mathlib.Core.Path.{_≡_, sym, subst}
 use Prim.Native.Nat.{ℕ, _≤_}
 use native.Mathlib.Omega.{arith}

@@ -1,8 +1,7 @@
--- Laws of a whole file: its start, and that what it prints is the lines of its rows and then one ending. Assumes nothing.
+-- The start of a file that is accepted: what its two headers and its settings then are, and where its rows begin. Assumes nothing.
 use mathlib.Core.Path.{_≡_, refl, sym, subst, _∙_}
-use mathlib.Core.List.{List, [], _++_, append-nil}
+use mathlib.Core.List.{List}
 use mathlib.Core.Bool.{Bool, true, false, cond, _&&_, true≢false}
-use mathlib.Core.Logic.{inl}
 use Prim.Native.Nat.{ℕ, _+_, _-_, _*_, _≤_, _<_}
 use native.Mathlib.Nat.{mul-pos}
 use native.Mathlib.Omega.{arith}
@@ -16,12 +15,8 @@ use Rattle.refusal.specs.Refusal.{passes}
 use Rattle.npy.specs.declared.reader.Head.{Head}
 use Rattle.npy.specs.Header.{hasCells, cellWidth, isAccepted, headerOf}
 use Rattle.npy.specs.HeaderLaws.{at-within}
-use Rattle.trace.specs.declared.course.Course.{Course}
 use Rattle.trace.specs.declared.course.Begun.{Begun}
-use Rattle.trace.specs.Trace.{isF4, settingsBytes, settingsRefusal, openedBank, traceRefusal, unless, traceStart, refusedStart, startOf, replayOf, replayRefusal, rowWidth, rowLines, afterRows, restRefusal, courseRefusal, refusedLine, reasonText, courseText}
-use Rattle.trace.specs.Taken.{CanTake, MostRows, text-cut, most-rows-text, rows-cut, spent-rest, after-left}
-
--- ---- the start
+use Rattle.trace.specs.Trace.{isF4, settingsBytes, settingsRefusal, openedBank, traceRefusal, unless, traceStart, refusedStart, startOf, rowWidth}
 
 -- a refusal that is given only where a test fails: it is not given, so the test holds, and no later refusal is given either
 not-given : (t : Bool) (x y : Refusal) → (t ≡ false → passes y ≡ false) → passes (cond t x y) ≡ true → (t ≡ true) × (passes x ≡ true)
@@ -122,48 +117,3 @@ row-has-bytes s g = rw (g .kind, g .lanes) (mul-pos (omega (arith, g .settings .
 -- the bytes of its rows, and what comes after them
 abbrev pub bytesAfterStart : List ℕ → List ℕ
 bytesAfterStart s = drop (startOf s .at) s
-
--- ---- THE WHOLE FILE: one whose start is refused prints its refusal alone
-
-pub refused-prints : (s : List ℕ) → passes (startOf s .refusal) ≡ false → replayOf s ≡ refusedLine (startOf s .refusal)
-unfolding replayOf
-refused-prints s e = simp e
-
-pub accepted-refusal : (s : List ℕ) → passes (startOf s .refusal) ≡ true → replayRefusal s ≡ courseRefusal (startOf s .course) (bytesAfterStart s)
-unfolding replayRefusal
-accepted-refusal s e = simp e
-
--- and one whose start is accepted the lines of the rows that can be taken, and then the line of what stops it
-pub accepted-prints : (s : List ℕ) (m : ℕ) → passes (startOf s .refusal) ≡ true → MostRows (startOf s .course) (bytesAfterStart s) m
-    → replayOf s ≡ rowLines m (startOf s .course) (bytesAfterStart s) ++ reasonText (replayRefusal s)
-unfolding replayOf
-accepted-prints s m e w = simp (e, accepted-refusal s e) (most-rows-text (startOf s .course) (bytesAfterStart s) m w)
-
--- it begins with the lines of any number of rows that can be taken
-pub accepted-lines : (s : List ℕ) (m : ℕ) → passes (startOf s .refusal) ≡ true → CanTake m (startOf s .course) (bytesAfterStart s)
-    → replayOf s ≡ rowLines m (startOf s .course) (bytesAfterStart s) ++ courseText (afterRows m (startOf s .course) (bytesAfterStart s)) (drop (m * rowWidth (startOf s .course)) (bytesAfterStart s))
-unfolding replayOf
-accepted-lines s m e t = simp e (text-cut m (startOf s .course) (bytesAfterStart s) t)
-
--- nothing of the file is refused: its start is accepted, its rows can all be taken, and there is nothing behind them
-pub record AcceptedFile (s : List ℕ) : Type 0 where
-  pub start-passes : passes (startOf s .refusal) ≡ true
-  pub rows : CanTake (startOf s .course .left) (startOf s .course) (bytesAfterStart s)
-  pub rest : drop (startOf s .course .left * rowWidth (startOf s .course)) (bytesAfterStart s) ≡ []
-
-pub accepted-all : (s : List ℕ) → AcceptedFile s → MostRows (startOf s .course) (bytesAfterStart s) (startOf s .course .left)
-accepted-all s a = record { taken = a .rows; spent = inl (after-left (startOf s .course .left) (startOf s .course) (bytesAfterStart s) ∙ omega arith) }
-
--- then nothing of it is refused (the converse: `unrefused-accepted`, WholeLaws)
-pub accepted-unrefused : (s : List ℕ) → AcceptedFile s → replayRefusal s ≡ Refusal.None
-unfolding restRefusal
-accepted-unrefused s a =
-    let c = startOf s .course in
-    accepted-refusal s (a .start-passes) ∙ rows-cut (c .left) c (bytesAfterStart s) (a .rows) .1
-    ∙ spent-rest (afterRows (c .left) c (bytesAfterStart s)) (drop (c .left * rowWidth c) (bytesAfterStart s)) (after-left (c .left) c (bytesAfterStart s) ∙ omega arith)
-    ∙ rw (a .rest)
-
--- it prints the lines of its rows and nothing else
-pub accepted-text : (s : List ℕ) → AcceptedFile s → replayOf s ≡ rowLines (startOf s .course .left) (startOf s .course) (bytesAfterStart s)
-unfolding reasonText passes
-accepted-text s a = accepted-prints s (startOf s .course .left) (a .start-passes) (accepted-all s a) ∙ rw (accepted-unrefused s a, append-nil)
