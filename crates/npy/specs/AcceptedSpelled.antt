@@ -13,11 +13,11 @@ use lib.Seq.{drop-cons, drop-drop, getD-drop, getD-take, length-take-le}
 use lib.Dec.{leb, eqb}
 use borrow.Author.Tests.{leb-true, eqb-true}
 use Rattle.lemmas.specs.Cases.{and-left, and-right}
-use Rattle.npy.specs.Text.{begins, within, isKindByte, isDigit, isSpace, lead, endOf, isNumber, beforeKind, beforeRows, beforeCols, afterCols, lineFeed, kindEnd, rowsAt, rowsEnd, colsAt, colsEnd, feedAt, placesOf, spelled}
+use Rattle.npy.specs.Text.{begins, byteWithin, isKindByte, isDigit, isSpace, leadCount, endOf, isNumber, beforeKind, beforeRows, beforeCols, afterCols, lineFeed, kindEnd, rowsAt, rowsEnd, colsAt, colsEnd, feedAt, placesOf, spelled}
 use Rattle.npy.specs.TextLaws.{lead-within, end-within, spelled-parts, number-size}
 use Rattle.npy.specs.Header.{magic, isAccepted, textLength, lengthWidth, headerOf}
 use Rattle.npy.specs.HeaderLaws.{fits-parts}
-use Rattle.npy.specs.HeaderStart.{accepted-parts, textOf, data-place}
+use Rattle.npy.specs.AcceptedHeader.{accepted-parts, textOf, data-place}
 use Rattle.npy.specs.Spelling.{allPass, HeaderParts, spaces, headerText, headerBytes, Framed, SpelledHeader}
 
 begins-is : (w s : List ℕ) → begins s w ≡ true → s ≡ w ++ drop (length w) s
@@ -33,40 +33,40 @@ begins-is (x ∷ w) (y ∷ s) h = heads (eqb y x) refl (λ g. begins-is w s g) h
         ap (λ (k : ℕ). k ∷ s) q ∙ ap (λ (m : List ℕ). x ∷ m) (rest g)
     heads false e rest g = let z : false ≡ true = g in (cc)
 
-all-lead : (p : ℕ → Bool) (l : List ℕ) → allPass p (take (lead p l) l) ≡ true
-unfolding allPass lead
+all-lead : (p : ℕ → Bool) (l : List ℕ) → allPass p (take (leadCount p l) l) ≡ true
+unfolding allPass leadCount
 all-lead p [] = refl
 all-lead p (x ∷ l) = heads (p x) refl (all-lead p l)
   where
-    heads : (b : Bool) → p x ≡ b → allPass p (take (lead p l) l) ≡ true → allPass p (take (cond b (lead p l + 1) 0) (x ∷ l)) ≡ true
-    heads true e g = rw (add-one (lead p l), e) g
+    heads : (b : Bool) → p x ≡ b → allPass p (take (leadCount p l) l) ≡ true → allPass p (take (cond b (leadCount p l + 1) 0) (x ∷ l)) ≡ true
+    heads true e g = rw (add-one (leadCount p l), e) g
     heads false e g = refl
 
 space-is : (x : ℕ) → isSpace x ≡ true → x ≡ 32
-unfolding within
+unfolding byteWithin
 space-is x h =
     let r = and-right (leb 0x20 x) (leb x 0x20 && not (eqb x 0)) h in
     let a : 0x20 ≤ x = leb-true _ _ (and-left (leb 0x20 x) (leb x 0x20 && not (eqb x 0)) h) in
     let b : x ≤ 0x20 = leb-true _ _ (and-left (leb x 0x20) (not (eqb x 0)) r) in
     omega arith
 
-spaces-lead : (l : List ℕ) → take (lead isSpace l) l ≡ spaces (lead isSpace l)
-unfolding lead
+spaces-lead : (l : List ℕ) → take (leadCount isSpace l) l ≡ spaces (leadCount isSpace l)
+unfolding leadCount
 spaces-lead [] = refl
 spaces-lead (x ∷ l) = heads (isSpace x) refl (spaces-lead l)
   where
-    heads : (b : Bool) → isSpace x ≡ b → take (lead isSpace l) l ≡ spaces (lead isSpace l)
-        → take (cond b (lead isSpace l + 1) 0) (x ∷ l) ≡ spaces (cond b (lead isSpace l + 1) 0)
-    heads true e g = rw (add-one (lead isSpace l)) (ap (λ (k : ℕ). k ∷ take (lead isSpace l) l) (space-is x e) ∙ ap (λ (m : List ℕ). 32 ∷ m) g)
+    heads : (b : Bool) → isSpace x ≡ b → take (leadCount isSpace l) l ≡ spaces (leadCount isSpace l)
+        → take (cond b (leadCount isSpace l + 1) 0) (x ∷ l) ≡ spaces (cond b (leadCount isSpace l + 1) 0)
+    heads true e g = rw (add-one (leadCount isSpace l)) (ap (λ (k : ℕ). k ∷ take (leadCount isSpace l) l) (space-is x e) ∙ ap (λ (m : List ℕ). 32 ∷ m) g)
     heads false e g = refl
 
 -- a run of a class, from a place to its end
 abbrev runAt : (ℕ → Bool) → List ℕ → ℕ → List ℕ
 runAt p t i = take (endOf p t i - i) (drop i t)
 
-run-size : (p : ℕ → Bool) (t : List ℕ) (i : ℕ) → endOf p t i - i ≡ lead p (drop i t)
+run-size : (p : ℕ → Bool) (t : List ℕ) (i : ℕ) → endOf p t i - i ≡ leadCount p (drop i t)
 unfolding endOf
-run-size p t i = add-sub-cancel-left i (lead p (drop i t))
+run-size p t i = add-sub-cancel-left i (leadCount p (drop i t))
 
 run-all : (p : ℕ → Bool) (t : List ℕ) (i : ℕ) → allPass p (runAt p t i) ≡ true
 run-all p t i = rw (run-size p t i) (all-lead p (drop i t))
@@ -100,7 +100,7 @@ abbrev pub cOf : List ℕ → List ℕ
 cOf t = runAt isDigit t (colsAt t)
 
 abbrev pub spaceCount : List ℕ → ℕ
-spaceCount t = lead isSpace (drop (colsEnd t + 4) t)
+spaceCount t = leadCount isSpace (drop (colsEnd t + 4) t)
 
 alone : (l : List ℕ) → begins l lineFeed ≡ true → length l ≡ 1 → l ≡ lineFeed
 alone l h e =

@@ -2,6 +2,7 @@ pub mod Text
 pub mod TextLaws
 pub mod Header
 pub mod HeaderLaws
+pub mod AcceptedHeader
 pub mod HeaderStart
 pub mod Spelling
 pub mod SpelledAccepted

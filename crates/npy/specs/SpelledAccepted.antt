@@ -11,7 +11,7 @@ use lib.Seq.{drop-drop, drop-append-seam, take-append-seam, getD-drop, take-at}
 use lib.Dec.{leb, eqb}
 use borrow.Author.Tests.{le-leb, eq-eqb, ne-eqb, eqb-true}
 use Rattle.lemmas.specs.Cases.{and-left, and-right}
-use Rattle.npy.specs.Text.{begins, within, isKindByte, isDigit, isSpace, lead, endOf, decimal, f4, i2, kindOf, beforeKind, beforeRows, beforeCols, afterCols, lineFeed, kindEnd, rowsAt, rowsEnd, colsAt, colsEnd, feedAt, placesOf, frontSpelled, shapeSpelled, endSpelled, spelled}
+use Rattle.npy.specs.Text.{begins, byteWithin, isKindByte, isDigit, isSpace, leadCount, endOf, decimal, f4, i2, kindOf, beforeKind, beforeRows, beforeCols, afterCols, lineFeed, kindEnd, rowsAt, rowsEnd, colsAt, colsEnd, feedAt, placesOf, frontSpelled, shapeSpelled, endSpelled, spelled}
 use Rattle.npy.specs.TextLaws.{number-size}
 use Rattle.npy.specs.Header.{lowFirst, magic, acceptedHead, textHead, textFits, textLength, headerW, lengthWidth, headerOf}
 use Rattle.npy.specs.HeaderStart.{begins-take, same-when-true}
@@ -23,15 +23,15 @@ unfolding begins
 begins-own [] l = refl
 begins-own (x ∷ w) l = rw (eq-eqb x x refl) (begins-own w l)
 
-lead-all : (p : ℕ → Bool) (x : List ℕ) (y : ℕ) (l : List ℕ) → allPass p x ≡ true → p y ≡ false → lead p (x ++ (y ∷ l)) ≡ length x
-unfolding lead allPass
+lead-all : (p : ℕ → Bool) (x : List ℕ) (y : ℕ) (l : List ℕ) → allPass p x ≡ true → p y ≡ false → leadCount p (x ++ (y ∷ l)) ≡ length x
+unfolding leadCount allPass
 lead-all p [] y l h e = rw e
 lead-all p (z ∷ x) y l h e =
     let a : p z ≡ true = and-left (p z) (allPass p x) h in
     rw (a, lead-all p x y l (and-right (p z) (allPass p x) h) e) (omega arith)
 
 all-spaces : (n : ℕ) → allPass isSpace (spaces n) ≡ true
-unfolding allPass within
+unfolding allPass byteWithin
 all-spaces zero = refl
 all-spaces (suc n) = all-spaces n
 
@@ -41,7 +41,7 @@ after-part t w l i h = sym (drop-drop (length w) i t) ∙ ap (λ (s : List ℕ).
 
 run-end : (p : ℕ → Bool) (t x : List ℕ) (y : ℕ) (l : List ℕ) (i : ℕ) → drop i t ≡ x ++ (y ∷ l) → allPass p x ≡ true → p y ≡ false → endOf p t i ≡ i + length x
 unfolding endOf
-run-end p t x y l i h a e = ap (λ (s : List ℕ). i + lead p s) h ∙ ap (λ (n : ℕ). i + n) (lead-all p x y l a e)
+run-end p t x y l i h a e = ap (λ (s : List ℕ). i + leadCount p s) h ∙ ap (λ (n : ℕ). i + n) (lead-all p x y l a e)
 
 first-of : (t r l : List ℕ) (i : ℕ) → drop i t ≡ r ++ l → 1 ≤ length r → getD t i 0 ≡ getD r 0 0
 first-of t r l i h g =
@@ -64,7 +64,7 @@ module _ (x r c : List ℕ) (n : ℕ) (p : HeaderParts x r c) where
   at-x = refl
 
   x-ends : kindEnd T ≡ 11 + length x
-  unfolding kindEnd within
+  unfolding kindEnd byteWithin
   x-ends = run-end isKindByte T x 39 _ 11 at-x (p .kind) refl
 
   at-before-rows : drop (kindEnd T) T ≡ beforeRows ++ (r ++ (beforeCols ++ (c ++ (afterCols ++ (spaces n ++ lineFeed)))))
@@ -75,7 +75,7 @@ module _ (x r c : List ℕ) (n : ℕ) (p : HeaderParts x r c) where
   at-rows = after-part T beforeRows _ (kindEnd T) at-before-rows
 
   rows-end : rowsEnd T ≡ rowsAt T + length r
-  unfolding rowsEnd within
+  unfolding rowsEnd byteWithin
   rows-end = run-end isDigit T r 44 _ (rowsAt T) at-rows (p .rows) refl
 
   at-before-cols : drop (rowsEnd T) T ≡ beforeCols ++ (c ++ (afterCols ++ (spaces n ++ lineFeed)))
@@ -86,7 +86,7 @@ module _ (x r c : List ℕ) (n : ℕ) (p : HeaderParts x r c) where
   at-cols = after-part T beforeCols _ (rowsEnd T) at-before-cols
 
   cols-end : colsEnd T ≡ colsAt T + length c
-  unfolding colsEnd within
+  unfolding colsEnd byteWithin
   cols-end = run-end isDigit T c 41 _ (colsAt T) at-cols (p .cols) refl
 
   at-after-cols : drop (colsEnd T) T ≡ afterCols ++ (spaces n ++ lineFeed)
@@ -96,7 +96,7 @@ module _ (x r c : List ℕ) (n : ℕ) (p : HeaderParts x r c) where
   at-spaces = after-part T afterCols _ (colsEnd T) at-after-cols
 
   feed-at : feedAt T ≡ colsEnd T + 4 + length (spaces n)
-  unfolding feedAt within
+  unfolding feedAt byteWithin
   feed-at = run-end isSpace T (spaces n) 10 [] (colsEnd T + 4) at-spaces (all-spaces n) refl
 
   at-feed : drop (feedAt T) T ≡ lineFeed

@@ -16,27 +16,27 @@ begins [] (w ∷ ws) = false
 begins (x ∷ xs) (w ∷ ws) = cond (eqb x w) (begins xs ws) false
 
 -- a byte from lo to hi, other than one
-unfoldable pub within : ℕ → ℕ → ℕ → ℕ → Bool
-within lo hi but x = leb lo x && (leb x hi && not (eqb x but))
+unfoldable pub byteWithin : ℕ → ℕ → ℕ → ℕ → Bool
+byteWithin lo hi but x = leb lo x && (leb x hi && not (eqb x but))
 
 -- 20 to 7e (hex), without '
 abbrev pub isKindByte : ℕ → Bool
-isKindByte = within 0x20 0x7e 0x27
+isKindByte = byteWithin 0x20 0x7e 0x27
 
 abbrev pub isDigit : ℕ → Bool
-isDigit = within 0x30 0x39 0
+isDigit = byteWithin 0x30 0x39 0
 
 abbrev pub isSpace : ℕ → Bool
-isSpace = within 0x20 0x20 0
+isSpace = byteWithin 0x20 0x20 0
 
 -- how many of the first bytes pass the test
-unfoldable pub lead : (ℕ → Bool) → List ℕ → ℕ
-lead p [] = 0
-lead p (x ∷ xs) = cond (p x) (lead p xs + 1) 0
+unfoldable pub leadCount : (ℕ → Bool) → List ℕ → ℕ
+leadCount p [] = 0
+leadCount p (x ∷ xs) = cond (p x) (leadCount p xs + 1) 0
 
 -- the first place from one on whose byte does not pass the test
 unfoldable pub endOf : (ℕ → Bool) → List ℕ → ℕ → ℕ
-endOf p t at = at + lead p (drop at t)
+endOf p t at = at + leadCount p (drop at t)
 
 -- the number that digits stand for, after those of the value v
 unfoldable pub decimal : ℕ → List ℕ → ℕ

@@ -13,7 +13,7 @@ use lib.Seq.{drop-cons}
 use lib.Dec.{eqb, leb, ltb, lit<}
 use Rattle.lemmas.specs.Cases.{and-left, and-right, lt-or-le}
 use Rattle.npy.specs.declared.reader.Places.{Places}
-use Rattle.npy.specs.Text.{begins, isKindByte, isDigit, isSpace, lead, endOf, decimal, kindFits, isNumber, beforeKind, beforeRows, beforeCols, afterCols, lineFeed, kindEnd, rowsAt, rowsEnd, colsAt, colsEnd, feedAt, placesOf, frontSpelled, shapeSpelled, endSpelled, spelled}
+use Rattle.npy.specs.Text.{begins, isKindByte, isDigit, isSpace, leadCount, endOf, decimal, kindFits, isNumber, beforeKind, beforeRows, beforeCols, afterCols, lineFeed, kindEnd, rowsAt, rowsEnd, colsAt, colsEnd, feedAt, placesOf, frontSpelled, shapeSpelled, endSpelled, spelled}
 
 begins-step : (s w : List ℕ) (i j : ℕ) → i < length s → j < length w
     → begins (drop i s) (drop j w) ≡ cond (eqb (getD s i 0) (getD w j 0)) (begins (drop (i + 1) s) (drop (j + 1) w)) false
@@ -37,12 +37,12 @@ pub begins-more : (s w : List ℕ) (i j : ℕ) → i < length s → j < length w
 begins-more s w i j hi hj e = rw (begins-step s w i j hi hj, e)
 
 lead-step : (p : ℕ → Bool) (s : List ℕ) (i : ℕ) → i < length s
-    → lead p (drop i s) ≡ cond (p (getD s i 0)) (lead p (drop (i + 1) s) + 1) 0
-unfolding lead
+    → leadCount p (drop i s) ≡ cond (p (getD s i 0)) (leadCount p (drop (i + 1) s) + 1) 0
+unfolding leadCount
 lead-step p s i h = rw (drop-cons s i 0, add-one i)
 
 pub end-past : (p : ℕ → Bool) (s : List ℕ) (i : ℕ) → length s ≤ i → i ≡ endOf p s i
-unfolding endOf lead
+unfolding endOf leadCount
 end-past p s i h = rw (drop-of-length-le s h, add-zero)
 
 pub end-stop : (p : ℕ → Bool) (s : List ℕ) (i : ℕ) → i < length s → p (getD s i 0) ≡ false → i ≡ endOf p s i
@@ -53,8 +53,8 @@ pub end-more : (p : ℕ → Bool) (s : List ℕ) (i : ℕ) → i < length s → 
 unfolding endOf
 end-more p s i h e = rw (lead-step p s i h, e) (omega arith)
 
-pub lead-within : (p : ℕ → Bool) (l : List ℕ) → lead p l ≤ length l
-unfolding lead
+pub lead-within : (p : ℕ → Bool) (l : List ℕ) → leadCount p l ≤ length l
+unfolding leadCount
 lead-within p [] = omega arith
 lead-within p (x ∷ xs) = counted (p x) (lead-within p xs)
   where
@@ -66,7 +66,7 @@ lead-within p (x ∷ xs) = counted (p x) (lead-within p xs)
 pub end-within : (p : ℕ → Bool) (s : List ℕ) (i : ℕ) → (i ≤ endOf p s i) × (endOf p s i ≤ i + (length s - i))
 unfolding endOf
 end-within p s i =
-    let h : lead p (drop i s) ≤ length s - i = rw length-drop at (lead-within p (drop i s)) in
+    let h : leadCount p (drop i s) ≤ length s - i = rw length-drop at (lead-within p (drop i s)) in
     (omega arith, omega arith)
 
 pub decimal-more : (s : List ℕ) (v i e : ℕ) → i < e → e ≤ length s

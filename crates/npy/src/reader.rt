@@ -3,7 +3,7 @@ ghost use mathlib.Core.Path.{_≡_};
 ghost use Prim.Native.Nat.{_+_, _-_, _≤_, _<_, _^_};
 ghost use mathlib.Core.Bool.{true, false, _&&_};
 ghost use lib.ListN.{length, take, drop, getD};
-ghost use Rattle.npy.specs.Text.{begins, within, endOf, decimal, isNumber, kindOf, placesOf, kindFits, frontSpelled, shapeSpelled, endSpelled, spelled};
+ghost use Rattle.npy.specs.Text.{begins, byteWithin, endOf, decimal, isNumber, kindOf, placesOf, kindFits, frontSpelled, shapeSpelled, endSpelled, spelled};
 ghost use Rattle.npy.specs.Header.{lowFirst, cellWidth, refusedHead, textHead, textFits, headerW, lengthWidth, headerOf, dataOf, placeIn};
 use refusal::Refusal;
 
@@ -68,8 +68,8 @@ fn holds(s: &[u8], at: usize, w: &[u8]) -> bool
 }
 
 // Whether x is a byte from lo to hi, other than `but`.
-fn within(lo: u8, hi: u8, but: u8, x: u8) -> bool
-    ensures { λ r. ⌜ r ≡ within lo hi but x ⌝ }
+fn byte_within(lo: u8, hi: u8, but: u8, x: u8) -> bool
+    ensures { λ r. ⌜ r ≡ byteWithin lo hi but x ⌝ }
 {
     if x < lo {
         return false;
@@ -82,11 +82,11 @@ fn within(lo: u8, hi: u8, but: u8, x: u8) -> bool
 
 // The first place from `at` on whose byte is not of that class.
 fn end_of(s: &[u8], at: usize, lo: u8, hi: u8, but: u8) -> usize
-    ensures { λ r. ⌜ r ≡ endOf (within lo hi but) (now (s .entry)) at ⌝ }
+    ensures { λ r. ⌜ r ≡ endOf (byteWithin lo hi but) (now (s .entry)) at ⌝ }
 {
     let mut i = at;
     while i < s.len() {
-        if !within(lo, hi, but, s[i]) {
+        if !byte_within(lo, hi, but, s[i]) {
             return i;
         }
         i += 1;

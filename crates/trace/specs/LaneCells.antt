@@ -1,7 +1,7 @@
 -- The cells of a file by their row and column: the updates of each lane, and its controller, new from its settings. Assumes nothing.
 use mathlib.Core.Path.{_≡_, ap, subst, _∙_}
 use mathlib.Core.List.{List, [], _∷_}
-use Prim.Native.Nat.{ℕ, _+_, _-_, _*_, _≤_, _<_}
+use Prim.Native.Nat.{ℕ, _+_, _*_, _≤_, _<_}
 use native.Mathlib.Nat.{zero-mul, add-assoc, mul-assoc, add-mul}
 use native.Mathlib.Omega.{arith}
 use lib.Ieee.{Float}

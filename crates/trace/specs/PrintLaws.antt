@@ -14,7 +14,7 @@ use Rattle.npy.specs.HeaderLaws.{to-end}
 use Rattle.trace.specs.declared.course.Course.{Course}
 use Rattle.trace.specs.declared.course.Went.{Went}
 use Rattle.trace.specs.Trace.{rowWidth, rowLine, afterRow, rowLines, rowRefusal, courseLines}
-use Rattle.trace.specs.Slices.{rowsIn, wentOf}
+use Rattle.trace.specs.Slices.{rowsTried, wentOf}
 use Rattle.trace.specs.Taken.{row-taken, row-cut, rows-cut, spent-lines, row-length, rows-length}
 use Rattle.trace.specs.WentLaws.{WentRowByRow}
 use Rattle.trace.specs.RowsForLaws.{some-tried}
@@ -61,9 +61,9 @@ module _ (s out₀ : List ℕ) (c₀ : Course) where
     print-done h = rw (spent-lines c (drop at s) (inl (omega arith))) at (p .text)
 
     module _ (cells values : ℕ) (went : Went) (ys : List ℕ) (l : 0 < c .left)
-        (e : went ≡ wentOf (rowsIn c (length (take (length s - at) (drop at s))) cells values (length (take (length out - o) (drop o out)))) c (take (length s - at) (drop at s)))
+        (e : went ≡ wentOf (rowsTried c (length (take (length s - at) (drop at s))) cells values (length (take (length out - o) (drop o out)))) c (take (length s - at) (drop at s)))
         (ey : ys ≡ sets (take (length out - o) (drop o out)) 0 (rowLines (went .rows) c (take (length s - at) (drop at s)))) where
-      here : WentRowByRow (rowsIn c (length (drop at s)) cells values (length (take (length out - o) (drop o out)))) c (drop at s) went
+      here : WentRowByRow (rowsTried c (length (drop at s)) cells values (length (take (length out - o) (drop o out)))) c (drop at s) went
       here = went-here s c at cells values (length (take (length out - o) (drop o out))) went e
 
       -- the lines of the rows that were taken, in their place
@@ -93,7 +93,7 @@ module _ (s out₀ : List ℕ) (c₀ : Course) where
               ap length (row-cut c (drop at s) l g .0) ∙ length-append (rowLine c (drop at s)) _ ∙ rw (row-length c (drop at s)) (omega arith) in
               let lo : length (take (length out - o) (drop o out)) ≡ length out - o = rw (to-end out o) (length-drop o out) in
               let some = some-tried c (length (drop at s)) cells values (length (take (length out - o) (drop o out))) l (row .form) (row .there) x y (omega (arith, p .fits, p .long)) in
-              let none : rowsIn c (length (drop at s)) cells values (length (take (length out - o) (drop o out))) ≡ 0 = sym (here .all (sym et ∙ f) .0) ∙ z in
+              let none : rowsTried c (length (drop at s)) cells values (length (take (length out - o) (drop o out))) ≡ 0 = sym (here .all (sym et ∙ f) .0) ∙ z in
               absurd (omega arith)
 
       pub print-on : (t : Bool) → t ≡ passes (went .refusal) → t ≡ true → Printing s out₀ c₀ (take o out ++ (ys ++ drop (length out - o) (drop o out))) (went .course) (at + went .taken) (o + went .written)

@@ -15,7 +15,7 @@ use Rattle.refusal.specs.Refusal.{numberOf, passes}
 use Rattle.npy.specs.declared.reader.Head.{Head}
 use Rattle.npy.specs.Header.{isAccepted, refusedHead, headerOf}
 use Rattle.npy.specs.HeaderLaws.{to-end, refused-is}
-use Rattle.npy.specs.HeaderStart.{shape-small}
+use Rattle.npy.specs.AcceptedHeader.{shape-small}
 use Rattle.trace.specs.declared.course.Course.{Course}
 use Rattle.trace.specs.declared.course.Begun.{Begun}
 use Rattle.trace.specs.declared.course.Measured.{Measured}

@@ -2,7 +2,7 @@
 use mathlib.Core.Path.{_≡_}
 use mathlib.Core.List.{List, _++_}
 use mathlib.Core.Bool.{true, false}
-use Prim.Native.Nat.{ℕ, _+_, _-_, _*_}
+use Prim.Native.Nat.{ℕ, _*_}
 use lib.ListN.{drop}
 use Rattle.refusal.specs.Refusal.{passes}
 use Rattle.trace.specs.Trace.{startOf, replayOf, replayRefusal, rowWidth, rowLines, afterRows, courseRefusal, refusedLine, reasonText, courseText}

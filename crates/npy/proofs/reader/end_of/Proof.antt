@@ -1,4 +1,4 @@
-use Rattle.npy.specs.Text.{within, endOf}
+use Rattle.npy.specs.Text.{byteWithin, endOf}
 use Rattle.npy.specs.TextLaws.{end-past, end-stop, end-more}
 use borrow.Author.Tests.{not-true, not-false}
 use mathlib.Core.Path.{_≡_, refl, sym, _∙_}
@@ -9,7 +9,7 @@ use Rattle.npy.proofs.reader.end_of.Statement.{statement}
 use Rattle.npy.proofs.reader.end_of.Tie as tie
 
 abbrev Inv-loop : tie.InvT-loop
-Inv-loop s at lo hi but i₀ i = endOf (within lo hi but) s i ≡ endOf (within lo hi but) s at
+Inv-loop s at lo hi but i₀ i = endOf (byteWithin lo hi but) s i ≡ endOf (byteWithin lo hi but) s at
 
 abbrev μ-loop : tie.MeasureT-loop
 μ-loop s at lo hi but i₀ i = length s - i
@@ -17,14 +17,14 @@ abbrev μ-loop : tie.MeasureT-loop
 loop-holds : tie.Need-loop-holds Inv-loop μ-loop
 loop-holds c = refl
 
-shared-slice-read-within : tie.Need-shared-slice-read-within Inv-loop μ-loop
-shared-slice-read-within c = omega arith
+shared-slice-read-byte-within : tie.Need-shared-slice-read-byte-within Inv-loop μ-loop
+shared-slice-read-byte-within c = omega arith
 
-within-requires : tie.Need-within-requires Inv-loop μ-loop
-within-requires c κs = tt
+byte-within-requires : tie.Need-byte-within-requires Inv-loop μ-loop
+byte-within-requires c κs = tt
 
 returns : tie.Need-returns Inv-loop μ-loop
-returns c = end-stop _ _ _ (c .before .before .before .loop-test .taken) (sym (c .before .within .ensures) ∙ not-true _ (c .if1 .taken)) ∙ c .before .before .before .before .loop .inv
+returns c = end-stop _ _ _ (c .before .before .before .loop-test .taken) (sym (c .before .byte-within .ensures) ∙ not-true _ (c .if1 .taken)) ∙ c .before .before .before .before .loop .inv
 
 add-i : tie.Need-add-i Inv-loop μ-loop
 add-i c = omega arith
@@ -33,7 +33,7 @@ loop-less : tie.Need-loop-less Inv-loop μ-loop
 loop-less c = omega arith
 
 loop-again : tie.Need-loop-again Inv-loop μ-loop
-loop-again c = end-more _ _ _ (c .before .before .before .loop-test .taken) (sym (c .before .within .ensures) ∙ not-false _ (c .if1 .left)) ∙ c .before .before .before .before .loop .inv
+loop-again c = end-more _ _ _ (c .before .before .before .loop-test .taken) (sym (c .before .byte-within .ensures) ∙ not-false _ (c .if1 .left)) ∙ c .before .before .before .before .loop .inv
 
 returns-2 : tie.Need-returns-2 Inv-loop μ-loop
 returns-2 c = end-past _ _ _ (c .loop-test .left) ∙ c .before .loop .inv
@@ -45,8 +45,8 @@ end-of-spec =
     Inv-loop
     μ-loop
     loop-holds
-    shared-slice-read-within
-    within-requires
+    shared-slice-read-byte-within
+    byte-within-requires
     returns
     add-i
     loop-less
