@@ -4,5 +4,5 @@ pub mod Single
 pub mod SingleLaws
 pub mod Bank
 pub mod BankLaws
-pub mod Runs
+pub mod BankRuns
 pub mod RunLaws

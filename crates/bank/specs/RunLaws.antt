@@ -15,7 +15,7 @@ use Rattle.bank.specs.Single.{Single, none, singleMachine, callSingle, s
 use Rattle.bank.specs.SingleLaws.{laneOf, Good, step-same}
 use Rattle.bank.specs.Bank.{freshBank, Eight, laneAt, callBank}
 use Rattle.bank.specs.BankLaws.{fresh-eight, fresh-closed, step-eight, named, others}
-use Rattle.bank.specs.Runs.{bankMachine, run, after, laneMachine, laneRun, laneAfter}
+use Rattle.bank.specs.BankRuns.{bankMachine, run, after, laneMachine, laneRun, laneAfter}
 
 -- a run leaves eight lanes
 pub after-eight : (calls : List (For Op)) (b : Bank) → Eight b → Eight (after b calls)

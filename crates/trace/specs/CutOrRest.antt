@@ -19,7 +19,7 @@ use Rattle.rate_pid.specs.declared.RatePid.{RatePid}
 use Rattle.bank.specs.declared.Bank.{Bank}
 use Rattle.bank.specs.Bank.{Eight}
 use Rattle.bank.specs.BankLaws.{updateRefusal}
-use Rattle.bank.specs.Runs.{after}
+use Rattle.bank.specs.BankRuns.{after}
 use Rattle.bank.specs.Single.{one}
 use Rattle.bank.specs.RunLaws.{Lies, after-eight}
 use Rattle.rows.specs.Rows.{firstRefusal}

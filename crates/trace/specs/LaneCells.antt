@@ -18,7 +18,7 @@ use Rattle.bank.specs.declared.lane.Op.{Op}
 use Rattle.bank.specs.declared.lane.Op.the-variants.{Update}
 use Rattle.bank.specs.Bank.{freshBank}
 use Rattle.bank.specs.Single.{Single, none, one, openedSingle, callSingle, singleAfter}
-use Rattle.bank.specs.Runs.{after}
+use Rattle.bank.specs.BankRuns.{after}
 use Rattle.bank.specs.RunLaws.{Lies, lies-after, fresh-lies}
 use Rattle.trace.specs.LanesInTurn.{inTurn, readEach, each-length, each-at, lane-of-each}
 use Rattle.trace.specs.Trace.{openOf, openedBank, startOf}

@@ -22,7 +22,7 @@ use Rattle.bank.specs.declared.Bank.{Bank}
 use Rattle.bank.specs.Lane.{plain}
 use Rattle.bank.specs.Bank.{callBank}
 use Rattle.bank.specs.Single.{Single, callSingle, singleRun, singleAfter}
-use Rattle.bank.specs.Runs.{bankMachine, run, after}
+use Rattle.bank.specs.BankRuns.{bankMachine, run, after}
 use Rattle.bank.specs.RunLaws.{Lies, lies-run, lies-after}
 use Rattle.rows.specs.Rows.{nextLane, updateCalls, valuesOf}
 use Rattle.rows.specs.RowsLaws.{values-length}

@@ -23,7 +23,7 @@ use Rattle.bank.specs.declared.lane.Op.the-variants.{Open}
 use Rattle.bank.specs.declared.lane.SlewLimit.the-variants.{Off}
 use Rattle.bank.specs.declared.Bank.{Bank}
 use Rattle.bank.specs.Bank.{freshBank, callBank}
-use Rattle.bank.specs.Runs.{after}
+use Rattle.bank.specs.BankRuns.{after}
 use Rattle.lanes.specs.Runs.{left}
 use Rattle.trace.specs.declared.course.Begun.{Begun}
 use Rattle.trace.specs.LanesInTurn.{inTurn, readEach}

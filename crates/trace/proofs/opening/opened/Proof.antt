@@ -1,4 +1,4 @@
-use Rattle.bank.specs.Runs.{after}
+use Rattle.bank.specs.BankRuns.{after}
 use Rattle.trace.specs.LanesInTurn.{inTurn, readEach}
 use Rattle.trace.specs.Trace.{openOf, openedBank}
 use Rattle.trace.specs.StartLaws.{opening-more, opening-done, opening-start}
