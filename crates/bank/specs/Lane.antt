@@ -1,6 +1,6 @@
 -- One lane: what each call answers and leaves, in document 01's order: 9 or 10, then 3 for the stored limit, then 3 for the
 -- given one. A refused call leaves the lane, and its numbers are +0.
-use mathlib.Core.Bool.{Bool, true, false, cond, not, _&&_}
+use mathlib.Core.Bool.{true, false, cond}
 use lib.Ieee.{Float}
 use Rattle.float.specs.F32 as F
 use Rattle.refusal.specs.declared.Refusal.{Refusal}

@@ -11,7 +11,7 @@ use Rattle.bank.specs.declared.lane.Op.{Op}
 use Rattle.bank.specs.declared.Bank.{Bank}
 use Rattle.bank.specs.Lane.{callLane}
 use Rattle.bank.specs.LaneLaws.{BoundedLane, closed-bounded, step-bounded}
-use Rattle.bank.specs.Single.{Single, none, singleMachine, callSingle, singleRun, singleAfter}
+use Rattle.bank.specs.Single.{Single, none, singleMachine, singleRun, singleAfter}
 use Rattle.bank.specs.SingleLaws.{laneOf, Good, step-same}
 use Rattle.bank.specs.Bank.{freshBank, Eight, laneAt, callBank}
 use Rattle.bank.specs.BankLaws.{fresh-eight, fresh-closed, step-eight, named, others}

@@ -13,7 +13,7 @@ use lib.Ieee.{Float, nan, inf, fin, binary32, up, down, below, level, ne, eq, lt
 use lib.Ieee.Fits.{up-pos}
 use lib.Ieee.Bits.{nanBits-above}
 use lib.Ieee.Compare.{differs-from-itself}
-use Rattle.lemmas.specs.Cases.{and-left, and-right}
+use Rattle.lemmas.specs.Cases.{and-left}
 use Rattle.float.specs.F32 as F
 use Rattle.float.specs.F32.{_/f_}
 use Rattle.float.specs.Float.{negative, clampF}

@@ -1,6 +1,6 @@
 -- WHAT LANES DO TO EACH OTHER, whatever a lane is. A machine of many lanes is called lane by lane. Where a call changes the lane that it
 -- names alone, and that lane answers it as it would by itself, the same holds of every run. Assumes nothing.
-use mathlib.Core.Path.{_≡_, refl, sym, _∙_, ap, subst}
+use mathlib.Core.Path.{_≡_, refl, sym, _∙_, ap}
 use mathlib.Core.Bool.{Bool, true, false}
 use mathlib.Core.List.{List, [], _∷_}
 use Prim.Native.Nat.{ℕ}

@@ -58,3 +58,8 @@ lt-or-le a b = go (ltb a b) refl
     go : (t : Bool) → ltb a b ≡ t → (a < b) ⊎ (b ≤ a)
     go true e = inl (ltb-true a b e)
     go false e = inr (ltb-false a b e)
+
+-- two choices with the same second way, and first ways that are the same where they are taken
+pub same-when-true : {A : Type 0} (b : Bool) (x y z : A) → (b ≡ true → x ≡ y) → cond b x z ≡ cond b y z
+same-when-true true x y z e = e refl
+same-when-true false x y z e = refl

@@ -1,16 +1,17 @@
 -- Laws of the header: one turn of its number, what the code answers in each case, the place of the data, and what a refused one says.
 -- Assumes nothing.
 use mathlib.Core.Path.{_≡_, refl, sym, _∙_, ap}
-use mathlib.Core.List.{List, [], _∷_}
+use mathlib.Core.List.{List, []}
 use mathlib.Core.Bool.{Bool, true, false, cond, _&&_}
 use mathlib.Core.Logic.{⊎-elim}
 use Prim.Native.Nat.{ℕ, zero, suc, _+_, _*_, _-_, _%_, _≤_, _<_, _^_}
-use native.Mathlib.Nat.{pow-suc, lt-of-lt-of-le, pow-le-pow-right, add-sub-cancel-left, sub-zero, zero-sub, suc-sub-suc, min-le-left, zero-add}
+use native.Mathlib.Nat.{pow-suc, lt-of-lt-of-le, pow-le-pow-right, add-sub-cancel-left, min-le-left, zero-add}
 use native.Mathlib.Omega.{arith}
-use lib.ListN.{length, getD, take, drop, drop-of-length-le, length-drop, length-take, List·getD-eq-default}
-use lib.Seq.{drop-cons, take-nil, take-all}
+use lib.ListN.{length, getD, take, drop, drop-of-length-le, length-take, List·getD-eq-default}
+use lib.Seq.{drop-cons, take-nil}
 use lib.Dec.{leb, eqb, lit<}
 use borrow.Author.Tests.{le-leb, lt-leb, leb-true, eq-eqb, ne-eqb, eqb-true}
+use Rattle.lemmas.specs.Lists.{to-end}
 use Rattle.refusal.specs.declared.Refusal.{Refusal}
 use Rattle.refusal.specs.declared.Refusal.the-variants as Refusal
 use Rattle.refusal.specs.Refusal.{passes}
@@ -77,17 +78,6 @@ good-text t at p b k r c hp hb h hk hr hc =
     let r' : r ≡ decimal 0 (take (rowsEnd t - rowsAt t) (drop (rowsAt t) t)) = hr ∙ ap (λ (q : Places). decimal 0 (take (q .«rows_end» - q .rows) (drop (q .rows) t))) hp in
     let c' : c ≡ decimal 0 (take (colsEnd t - colsAt t) (drop (colsAt t) t)) = hc ∙ ap (λ (q : Places). decimal 0 (take (q .«cols_end» - q .cols) (drop (q .cols) t))) hp in
     rw e (rw (k', r', c'))
-
--- a part of a beginning
-pub drop-take : {A : Type 0} (i n : ℕ) (l : List A) → drop i (take n l) ≡ take (n - i) (drop i l)
-drop-take zero n l = ap (λ (k : ℕ). take k l) (sym (sub-zero n))
-drop-take (suc i) zero l = ap (λ (k : ℕ). take k (drop (suc i) l)) (sym (zero-sub (suc i)))
-drop-take (suc i) (suc n) [] = sym (take-nil (suc n - suc i))
-drop-take (suc i) (suc n) (x ∷ xs) = drop-take i n xs ∙ ap (λ (k : ℕ). take k (drop i xs)) (sym (suc-sub-suc n i))
-
--- the part from a place to the end
-pub to-end : (s : List ℕ) (b : ℕ) → take (length s - b) (drop b s) ≡ drop b s
-to-end s b = take-all (length s - b) (drop b s) (rw length-drop (omega arith))
 
 pub length-cut : (w : ℕ) (s : List ℕ) → length s < 8 + w → refusedHead Refusal.Header ≡ headerW w s
 unfolding headerW

@@ -10,10 +10,11 @@ use lib.ListN.{length, take, drop, length-take}
 use lib.Seq.{take-take, getD-take, take-at}
 use lib.Dec.{leb, eqb}
 use borrow.Author.Tests.{le-leb, lt-leb}
-use Rattle.lemmas.specs.Cases.{and-right, lt-or-le}
+use Rattle.lemmas.specs.Lists.{drop-take}
+use Rattle.lemmas.specs.Cases.{and-right, lt-or-le, same-when-true}
 use Rattle.npy.specs.Text.{begins}
 use Rattle.npy.specs.Header.{magic, isAccepted, textFits, textLength, headerW, lengthWidth, headerOf}
-use Rattle.npy.specs.HeaderLaws.{drop-take, fits-parts, width-small, at-within}
+use Rattle.npy.specs.HeaderLaws.{fits-parts, width-small, at-within}
 use Rattle.npy.specs.AcceptedHeader.{data-place}
 
 pub begins-take : (w s : List ℕ) (m : ℕ) → length w ≤ m → begins (take m s) w ≡ begins s w
@@ -49,10 +50,6 @@ fits-take n b m s h =
     (λ (l : 1000 < n). rw (lt-leb n 1000 l))
     (λ (l : n ≤ 1000). rw (leb-take (b + n) m s (h l)))
     (lt-or-le 1000 n)
-
-pub same-when-true : {A : Type 0} (b : Bool) (x y z : A) → (b ≡ true → x ≡ y) → cond b x z ≡ cond b y z
-same-when-true true x y z e = e refl
-same-when-true false x y z e = refl
 
 headerW-take : (w m : ℕ) (s : List ℕ) → 8 + w ≤ m → (textLength w s ≤ 1000 → 8 + w + textLength w s ≤ m) → headerW w (take m s) ≡ headerW w s
 unfolding headerW

@@ -10,11 +10,11 @@ use lib.ListN.{length, getD, drop, length-drop, length-append, List·getD-append
 use lib.Seq.{drop-drop, drop-append-seam, take-append-seam, getD-drop, take-at}
 use lib.Dec.{leb, eqb}
 use borrow.Author.Tests.{le-leb, eq-eqb, ne-eqb, eqb-true}
-use Rattle.lemmas.specs.Cases.{and-left, and-right}
+use Rattle.lemmas.specs.Cases.{and-left, and-right, same-when-true}
 use Rattle.npy.specs.Text.{begins, byteWithin, isKindByte, isDigit, isSpace, leadCount, endOf, decimal, f4, i2, kindOf, beforeKind, beforeRows, beforeCols, afterCols, lineFeed, kindEnd, rowsAt, rowsEnd, colsAt, colsEnd, feedAt, placesOf, frontSpelled, shapeSpelled, endSpelled, spelled}
 use Rattle.npy.specs.TextLaws.{number-size}
 use Rattle.npy.specs.Header.{lowFirst, magic, acceptedHead, textHead, textFits, textLength, headerW, lengthWidth, headerOf}
-use Rattle.npy.specs.HeaderStart.{begins-take, same-when-true}
+use Rattle.npy.specs.HeaderStart.{begins-take}
 use Rattle.npy.specs.Spelling.{allPass, HeaderParts, spaces, headerText, headerBytes, Framed}
 
 -- ---- the text

@@ -8,7 +8,6 @@ use Rattle.refusal.specs.declared.Refusal.{Refusal}
 use Rattle.refusal.specs.declared.Refusal.the-variants as Refusal
 use Rattle.filters.specs.declared.lowpass.Lowpass.{Lowpass}
 use Rattle.filters.specs.declared.lowpass.Lowpassed.{Lowpassed}
-use Rattle.filters.specs.declared.lowpass2.NthOrderLowpass.{NthOrderLowpass}
 use Rattle.filters.specs.Lowpass.{newLowpass, stepLowpass}
 use Rattle.filters.specs.Lowpass2.{newLowpass2, setDtLowpass2, stepLowpass2}
 use Rattle.filters.specs.SlewRate.{badLimit, slewOf}

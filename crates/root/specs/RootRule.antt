@@ -14,7 +14,7 @@ use lib.Ieee.Fits.{down-pos}
 use Rattle.float.specs.F32 as F
 use Rattle.float.specs.FloatLaws.{above-zero, zero-not-above}
 use Rattle.root.specs.Root.{root, rootBits, scaled, twiceMiddle, fourfold}
-use Rattle.root.specs.Neighbours.{Neighbours, HasPattern, value-plain, pattern-of, neighbours, next-pattern}
+use Rattle.root.specs.Neighbours.{Neighbours, value-plain, pattern-of, neighbours, next-pattern}
 use Rattle.root.specs.Patterns.{smaller, twice-middle-is, twice-middle-next, fourfold-is}
 use Rattle.root.specs.RootLaws.{root-finite}
 use Rattle.root.specs.RootTheorem.{IsRoot, is-root}

@@ -7,7 +7,7 @@ use native.Mathlib.Omega.{arith}
 use lib.ListN.{length, getD, take, drop}
 use lib.Seq.{drop-drop}
 use borrow.Author.Tests.{eq-eqb, ne-eqb}
-use Rattle.npy.specs.HeaderLaws.{drop-take}
+use Rattle.lemmas.specs.Lists.{drop-take}
 use Rattle.lanes.specs.Lanes.{For, for, ofLane}
 
 -- things for a lane, the next lane, and so on

@@ -8,9 +8,8 @@ use native.Mathlib.Nat.{mul-comm}
 use native.Mathlib.Omega.{arith}
 use lib.ListN.{length, set, take, drop, length-append, length-drop, take-append-drop, drop-of-length-le}
 use lib.Seq.{sets, length-sets, drop-set-add, take-set-le}
-use Rattle.lemmas.specs.Lists.{sets-append}
+use Rattle.lemmas.specs.Lists.{sets-append, to-end}
 use Rattle.refusal.specs.Refusal.{passes}
-use Rattle.npy.specs.HeaderLaws.{to-end}
 use Rattle.trace.specs.declared.course.Course.{Course}
 use Rattle.trace.specs.declared.course.Went.{Went}
 use Rattle.trace.specs.Trace.{rowWidth, rowLine, afterRow, rowLines, rowRefusal, courseLines}

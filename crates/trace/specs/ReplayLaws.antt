@@ -9,12 +9,12 @@ use lib.Dec.{leb}
 use lib.ListN.{length, take, drop, length-append, length-drop}
 use lib.Seq.{sets, length-sets}
 use borrow.Author.Tests.{le-leb, lt-leb, eq-eqb, ne-eqb}
-use Rattle.lemmas.specs.Lists.{sets-append}
+use Rattle.lemmas.specs.Lists.{sets-append, to-end}
 use Rattle.refusal.specs.declared.Refusal.{Refusal}
 use Rattle.refusal.specs.Refusal.{numberOf, passes}
 use Rattle.npy.specs.declared.reader.Head.{Head}
 use Rattle.npy.specs.Header.{isAccepted, refusedHead, headerOf}
-use Rattle.npy.specs.HeaderLaws.{to-end, refused-is}
+use Rattle.npy.specs.HeaderLaws.{refused-is}
 use Rattle.npy.specs.AcceptedHeader.{shape-small}
 use Rattle.trace.specs.declared.course.Course.{Course}
 use Rattle.trace.specs.declared.course.Begun.{Begun}

@@ -10,13 +10,14 @@ use lib.Dec.{leb, eqb}
 use lib.ListN.{length, take, drop, length-take}
 use lib.Seq.{take-append-seam}
 use borrow.Author.Tests.{leb-true}
+use Rattle.lemmas.specs.Lists.{drop-take}
 use Rattle.refusal.specs.declared.Refusal.{Refusal}
 use Rattle.refusal.specs.declared.Refusal.the-variants as Refusal
 use Rattle.refusal.specs.Refusal.{passes}
 use Rattle.npy.specs.declared.reader.Kind.the-variants.{F4}
 use Rattle.npy.specs.declared.reader.Head.{Head}
 use Rattle.npy.specs.Header.{headerOf, isAccepted}
-use Rattle.npy.specs.HeaderLaws.{drop-take, at-within}
+use Rattle.npy.specs.HeaderLaws.{at-within}
 use Rattle.npy.specs.HeaderStart.{leb-take, window-decides}
 use Rattle.npy.specs.CellLaws.{cell-start}
 use Rattle.bank.specs.declared.Bank.{Bank}

@@ -9,6 +9,7 @@ use lib.Ieee.{Float}
 use lib.ListN.{length, take, drop, length-drop}
 use lib.Seq.{drop-drop}
 use borrow.Author.Tests.{leb-true, le-leb, lt-leb, eq-eqb, ne-eqb}
+use Rattle.lemmas.specs.Lists.{to-end}
 use Rattle.refusal.specs.declared.Refusal.{Refusal}
 use Rattle.refusal.specs.declared.Refusal.the-variants as Refusal
 use Rattle.refusal.specs.Refusal.{passes}
@@ -16,7 +17,7 @@ use Rattle.npy.specs.declared.reader.Kind.{Kind}
 use Rattle.npy.specs.declared.reader.Kind.the-variants.{F4}
 use Rattle.npy.specs.declared.reader.Head.{Head}
 use Rattle.npy.specs.Header.{hasCells, isAccepted, headerOf}
-use Rattle.npy.specs.HeaderLaws.{to-end, at-within}
+use Rattle.npy.specs.HeaderLaws.{at-within}
 use Rattle.npy.specs.Cell.{cellOf}
 use Rattle.bank.specs.declared.lane.Op.{Op}
 use Rattle.bank.specs.declared.lane.Op.the-variants.{Open}

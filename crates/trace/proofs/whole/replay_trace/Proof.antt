@@ -1,5 +1,5 @@
 use Rattle.trace.specs.ReplayLaws.{measured-refusal, measured-lines, measured-lines-small, measured-need, text-put, replayed-short, replayed-whole}
-use mathlib.Core.Path.{_≡_, sym, subst}
+use mathlib.Core.Path.{subst}
 use Prim.Native.Nat.{ℕ, _≤_}
 use native.Mathlib.Omega.{arith}
 use lib.ListN.{length}
