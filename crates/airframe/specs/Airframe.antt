@@ -12,7 +12,7 @@ use Rattle.refusal.specs.declared.Refusal.{Refusal}
 use Rattle.refusal.specs.declared.Refusal.the-variants as Refusal
 use Rattle.airframe.specs.declared.Signs.{Signs}
 use Rattle.airframe.specs.declared.Motor.{Motor}
-use Rattle.airframe.specs.declared.Rows.{Rows}
+use Rattle.airframe.specs.declared.PerRow.{PerRow}
 use Rattle.airframe.specs.declared.Mixing.{Mixing}
 
 -- ---- the mixing matrix of any number of motors
@@ -21,10 +21,10 @@ abbrev pub motor : Float → Float → Float → Motor
 motor x y reaction = record { x = x; y = y; reaction = reaction }
 
 -- a motor's column: (−y, x, −reaction, −1)
-unfoldable pub column : Motor → Rows
+unfoldable pub column : Motor → PerRow
 column m = record { roll = neg (m .y); pitch = m .x; yaw = neg (m .reaction); thrust = F.minusOne }
 
-unfoldable pub addSquares : Rows → Rows → Rows
+unfoldable pub addSquares : PerRow → PerRow → PerRow
 addSquares s c = record {
   roll = s .roll +f c .roll *f c .roll;
   pitch = s .pitch +f c .pitch *f c .pitch;
@@ -33,30 +33,30 @@ addSquares s c = record {
 }
 
 -- the squares of each row's entries, added to s in motor order
-unfoldable pub sums : Rows → List Motor → Rows
+unfoldable pub sums : PerRow → List Motor → PerRow
 sums s [] = s
 sums s (m ∷ ms) = sums (addSquares s (column m)) ms
 
 -- from +0
-unfoldable pub sumsOf : List Motor → Rows
+unfoldable pub sumsOf : List Motor → PerRow
 sumsOf ms = sums (record { roll = F.zero; pitch = F.zero; yaw = F.zero; thrust = F.zero }) ms
 
 -- above 0 and finite: not where it is NaN or an infinity
 unfoldable pub goodSum : Float → Bool
 goodSum s = lt F.zero s && lt s (inf false)
 
-unfoldable pub goodSums : Rows → Bool
+unfoldable pub goodSums : PerRow → Bool
 goodSums s = goodSum (s .roll) && goodSum (s .pitch) && goodSum (s .yaw) && goodSum (s .thrust)
 
 -- a motor's mixing entries: its column's, each divided by the sum of its row
-unfoldable pub divided : Rows → Rows → Rows
+unfoldable pub divided : PerRow → PerRow → PerRow
 divided c s = record { roll = c .roll /f s .roll; pitch = c .pitch /f s .pitch; yaw = c .yaw /f s .yaw; thrust = c .thrust /f s .thrust }
 
-unfoldable pub four : Rows → List Float
+unfoldable pub four : PerRow → List Float
 four e = e .roll ∷ e .pitch ∷ e .yaw ∷ e .thrust ∷ []
 
 -- four numbers a motor, in motor order
-unfoldable pub entries : Rows → List Motor → List Float
+unfoldable pub entries : PerRow → List Motor → List Float
 entries s [] = []
 entries s (m ∷ ms) = four (divided (column m) s) ++ entries s ms
 

@@ -18,7 +18,7 @@ use Rattle.lemmas.specs.Cases.{when-true, when-false}
 use Rattle.refusal.specs.declared.Refusal.the-variants as Refusal
 use Rattle.airframe.specs.declared.Signs.{Signs}
 use Rattle.airframe.specs.declared.Motor.{Motor}
-use Rattle.airframe.specs.declared.Rows.{Rows}
+use Rattle.airframe.specs.declared.PerRow.{PerRow}
 use Rattle.airframe.specs.Airframe as A
 use Rattle.airframe.specs.Airframe.{motor, column, divided, four, sumsOf, goodSum, goodSums, entries, zeros, refusalOf, matrixOf, motorsOf, flat, signs, table, signsAt, rowsFrom, frameMotor, frame, devQuadMotorSetup}
 
@@ -58,7 +58,7 @@ motors-flat [] = refl
 motors-flat (m ∷ ms) = ap (λ (l : List Motor). m ∷ l) (motors-flat ms)
 
 -- ---- lengths
-pub length-entries : (s : Rows) (ms : List Motor) → length (entries s ms) ≡ 4 * length ms
+pub length-entries : (s : PerRow) (ms : List Motor) → length (entries s ms) ≡ 4 * length ms
 unfolding entries four
 length-entries s [] = refl
 length-entries s (m ∷ ms) = omega (arith, length-entries s ms)
@@ -119,7 +119,7 @@ module _ (ms : List Motor) where
   matrix-bad h = sym (when-false _ _ _ h)
 
 -- ---- the meaning: motor i's four numbers are its column, each entry divided by the sum of its row
-entries-at : (s : Rows) (ms : List Motor) (i : ℕ) (d : Motor) → i < length ms → take 4 (drop (4 * i) (entries s ms)) ≡ four (divided (column (getD ms i d)) s)
+entries-at : (s : PerRow) (ms : List Motor) (i : ℕ) (d : Motor) → i < length ms → take 4 (drop (4 * i) (entries s ms)) ≡ four (divided (column (getD ms i d)) s)
 unfolding entries four
 entries-at s [] i d h = absurd (omega arith)
 entries-at s (m ∷ ms) zero d h = refl

@@ -39,7 +39,7 @@ struct Motor {
 }
 
 // One number for each row of the effectiveness matrix: the turns about x, y and z, and the push.
-struct Rows {
+struct PerRow {
     roll: f32,
     pitch: f32,
     yaw: f32,
@@ -112,10 +112,10 @@ fn read_motor(motors: &[f32], at: usize) -> Motor
 }
 
 // A motor's column: the turns about x, y and z that it gives while it pushes along -z with thrust 1, and that push.
-fn column(m: Motor) -> Rows
+fn column(m: Motor) -> PerRow
     ensures { λ r. ⌜ r ≡ column m ⌝ }
 {
-    Rows {
+    PerRow {
         roll: -m.y,
         pitch: m.x,
         yaw: -m.reaction,
@@ -123,10 +123,10 @@ fn column(m: Motor) -> Rows
     }
 }
 
-fn add_squares(s: Rows, c: Rows) -> Rows
+fn add_squares(s: PerRow, c: PerRow) -> PerRow
     ensures { λ r. ⌜ r ≡ addSquares s c ⌝ }
 {
-    Rows {
+    PerRow {
         roll: s.roll + c.roll * c.roll,
         pitch: s.pitch + c.pitch * c.pitch,
         yaw: s.yaw + c.yaw * c.yaw,
@@ -134,10 +134,10 @@ fn add_squares(s: Rows, c: Rows) -> Rows
     }
 }
 
-fn divided(c: Rows, s: Rows) -> Rows
+fn divided(c: PerRow, s: PerRow) -> PerRow
     ensures { λ r. ⌜ r ≡ divided c s ⌝ }
 {
-    Rows {
+    PerRow {
         roll: c.roll / s.roll,
         pitch: c.pitch / s.pitch,
         yaw: c.yaw / s.yaw,
@@ -146,10 +146,10 @@ fn divided(c: Rows, s: Rows) -> Rows
 }
 
 // The sum of squares of each row, from +0, in motor order.
-fn row_sums(motors: &[f32]) -> Rows
+fn row_sums(motors: &[f32]) -> PerRow
     ensures { λ r. ⌜ r ≡ sumsOf (motorsOf (now (motors .entry))) ⌝ }
 {
-    let mut s = Rows {
+    let mut s = PerRow {
         roll: 0.0,
         pitch: 0.0,
         yaw: 0.0,
@@ -173,7 +173,7 @@ fn good_sum(s: f32) -> bool
     false
 }
 
-fn good_sums(s: Rows) -> bool
+fn good_sums(s: PerRow) -> bool
     ensures { λ r. ⌜ r ≡ goodSums s ⌝ }
 {
     if !good_sum(s.roll) {
@@ -189,7 +189,7 @@ fn good_sums(s: Rows) -> bool
 }
 
 // Writes each motor's column, divided row by row by the sums.
-fn divide(motors: &[f32], s: Rows, out: &mut [f32])
+fn divide(motors: &[f32], s: PerRow, out: &mut [f32])
     requires { ⌜ length (now out) ≡ 4 * length (motorsOf (now motors)) ⌝ }
     ensures { λ r. ⌜ now (out .exit) ≡ entries s (motorsOf (now (motors .entry))) ⌝ }
 {

@@ -1,10 +1,11 @@
--- `Pid` wraps, then P, D, low pass, anti-windup, output limit.
+-- What `Pid`'s calls answer. An update wraps the error, then come P, D with its low pass, the integral with its anti-windup, and the
+-- output limit.
 use mathlib.Core.Bool.{Bool, true, false, cond, _&&_}
 use Prim.Native.Nat.{ℕ}
 use lib.Ieee.{Float}
 use Rattle.float.specs.F32 as F
 use Rattle.float.specs.F32.{_+f_, _-f_, _*f_, _/f_}
-use Rattle.refusal.specs.Refusal.{passes}
+use Rattle.refusal.specs.Refusal.{passes, firstRefusal}
 use Rattle.refusal.specs.declared.Refusal.{Refusal}
 use Rattle.refusal.specs.declared.Refusal.the-variants as Refusal
 use Rattle.func.specs.declared.Wrapped.{Wrapped}
@@ -25,13 +26,10 @@ use Rattle.angle_pid.specs.LpFilter.{tauRefusal, newLpFilter, storedTau,
 
 -- ---- what is refused
 
--- the first of two refusals
-unfoldable pub firstRefusal : Refusal → Refusal → Refusal
-firstRefusal a b = cond (passes a) b a
-
 -- wrapping, output limit, anti-windup, tau, in that order
 unfoldable pub partsRefusal : Range → Range → Range → Tau → Refusal
-partsRefusal wrapping outputLimit antiWindup tau = firstRefusal (rangeRefusal wrapping) (firstRefusal (rangeRefusal outputLimit) (firstRefusal (rangeRefusal antiWindup) (tauRefusal tau)))
+partsRefusal wrapping outputLimit antiWindup tau =
+    firstRefusal (rangeRefusal wrapping) (firstRefusal (rangeRefusal outputLimit) (firstRefusal (rangeRefusal antiWindup) (tauRefusal tau)))
 
 -- the first refusal of a controller's stored parts, and of a configuration's
 unfoldable pub pidRefusal : Pid → Refusal
@@ -79,8 +77,8 @@ newPid kp ki kd ideal ts =
       «lp_filter» = LpFilter.Off;
     }
 
-unfoldable pub withGains : Pid → Float → Float → Float → Pid
-withGains s kp ki kd =
+unfoldable pub setGainsPid : Pid → Float → Float → Float → Pid
+setGainsPid s kp ki kd =
     record {
       kp = kp;
       ki = ki;
@@ -213,7 +211,7 @@ callSetLpFilterPid s tau =
 
 -- `set_gains` ignores `ideal`.
 unfoldable pub callSetGainsPid : Pid → Float → Float → Float → PidChanged
-callSetGainsPid s kp ki kd = unlessRefused (pidRefusal s) s (withGains s kp ki kd)
+callSetGainsPid s kp ki kd = unlessRefused (pidRefusal s) s (setGainsPid s kp ki kd)
 
 unfoldable pub callResetIntegralToPid : Pid → Float → PidChanged
 callResetIntegralToPid s integral = unlessRefused (pidRefusal s) s (withIntegral s (s .«integral_en») integral)

@@ -6,6 +6,7 @@ use lib.Ieee.{Float, nan, lt}
 use Rattle.float.specs.F32 as F
 use Rattle.float.specs.F32.{_+f_, _-f_, _*f_}
 use Rattle.float.specs.FloatLaws.{clamp-nan}
+use Rattle.refusal.specs.RefusalLaws.{refused-not-none}
 use Rattle.refusal.specs.Refusal.{passes}
 use Rattle.refusal.specs.declared.Refusal.{Refusal}
 use Rattle.refusal.specs.declared.Refusal.the-variants as Refusal
@@ -23,7 +24,7 @@ use Rattle.angle_pid.specs.declared.pid.PidConfig.{PidConfig}
 use Rattle.angle_pid.specs.declared.pid.PidChanged.{PidChanged}
 use Rattle.angle_pid.specs.Range.{rangeRefusal, wrapError, admits, limited}
 use Rattle.angle_pid.specs.LpFilter.{newLpFilter, storedTau, stepLpFilter}
-use Rattle.angle_pid.specs.Pid.{firstRefusal, partsRefusal, pidRefusal, configRefusal, zeroPid, withParts, withConfigPid, movedIntegral, proportional, derivative, grown, nextIntegral, stepPid, unlessRefused, callWithConfigPid, callSetWrappingPid, callSetOutputLimitPid, callSetAntiWindupPid, callSetLpFilterPid, callSetGainsPid, callResetIntegralPid, callResetIntegralToPid, callEnableIntegralPid, callEnableResetIntegralPid, updatedPid, afterWrap, callUpdateTsPid}
+use Rattle.angle_pid.specs.Pid.{partsRefusal, pidRefusal, configRefusal, zeroPid, withParts, withConfigPid, movedIntegral, proportional, derivative, grown, nextIntegral, stepPid, unlessRefused, callWithConfigPid, callSetWrappingPid, callSetOutputLimitPid, callSetAntiWindupPid, callSetLpFilterPid, callSetGainsPid, callResetIntegralPid, callResetIntegralToPid, callEnableIntegralPid, callEnableResetIntegralPid, updatedPid, afterWrap, callUpdateTsPid}
 
 -- ---- a refused call leaves the state, and a refused constructor gives the all-zero one
 
@@ -81,7 +82,7 @@ module _ (s : Pid) (error ts : Float) where
 
 -- where no part is refused, a wrapping range that is on has min < max
 range-good : (s : Pid) (min max : Float) → pidRefusal s ≡ Refusal.None → s .wrapping ≡ Range.On min max → lt min max ≡ true
-unfolding pidRefusal partsRefusal firstRefusal passes rangeRefusal
+unfolding pidRefusal partsRefusal passes rangeRefusal
 range-good s min max good on = go (lt min max) refl
   where
     go : (b : Bool) → lt min max ≡ b → b ≡ true
@@ -117,10 +118,6 @@ pub wrapped-within : (s : Pid) (error min max y : Float) (k : ℕ) → s .wrappi
 unfolding wrapError
 wrapped-within s error min max y k on o r h = ap (λ (range : Range). wrapError range error .value) on ∙ ap (λ (w : Wrapped). w .value) (wrap-by-within lt error min max o y k r h)
 
-passes-none : (why : Refusal) → why ≡ Refusal.None → passes why ≡ false → ⊥
-unfolding passes
-passes-none why e f = true≢false (sym (ap passes e) ∙ f)
-
 module _ (s : Pid) (error ts : Float) where
   pub update-accepted : callUpdateTsPid s error ts .refusal ≡ Refusal.None
       → callUpdateTsPid s error ts ≡ updatedPid Refusal.None (stepPid s (wrappedError s error) ts .y) (wrapError (s .wrapping) error .steps) (stepPid s (wrappedError s error) ts .pid)
@@ -130,8 +127,8 @@ module _ (s : Pid) (error ts : Float) where
       w = wrapError (s .wrapping) error
 
       go : (b : Bool) → passes (pidRefusal s) ≡ b → (d : Bool) → passes (w .refusal) ≡ d → callUpdateTsPid s error ts ≡ updatedPid Refusal.None (stepPid s (w .value) ts .y) (w .steps) (stepPid s (w .value) ts .pid)
-      go false e d k = absurd (passes-none (pidRefusal s) (rw (update-bad s error ts e) at h) e)
-      go true e false k = absurd (passes-none (w .refusal) (rw (update-good s error ts e, after-refused s w ts k) at h) k)
+      go false e d k = absurd (refused-not-none (pidRefusal s) e (rw (update-bad s error ts e) at h))
+      go true e false k = absurd (refused-not-none (w .refusal) k (rw (update-good s error ts e, after-refused s w ts k) at h))
       go true e true k = update-good s error ts e ∙ after-settled s w ts k
 
 -- ---- the integral, after one step
@@ -187,7 +184,7 @@ module _ (s : Pid) (error ts : Float) (accepted : callUpdateTsPid s error ts .re
   pub nan-passes : proportional s e +f nextIntegral s e ts +f derivative s e ts .y ≡ nan → callUpdateTsPid s error ts .y ≡ nan
   nan-passes h = rw (update-accepted s error ts accepted) (step-nan s e ts h)
 
--- ---- a controller made from a good configuration has good parts, and an update keeps them: only 6 can refuse it from then on
+-- ---- a controller made from a good configuration has good parts, and an update keeps them: only 6 can refuse an update from then on
 new-tau : (t : Tau) (ts : Float) → storedTau (newLpFilter t ts) ≡ t
 unfolding storedTau newLpFilter newLowpass lowpassOf
 new-tau Tau.Off ts = refl

@@ -1,6 +1,7 @@
 // The controller. Every call on it, when it was built by hand too, checks its ranges and its low pass's tau first.
 ghost use mathlib.Core.Path.{_≡_};
-ghost use Rattle.angle_pid.specs.Pid.{firstRefusal, partsRefusal, pidRefusal, idealGain, withParts, zeroPid, grown, stepPid, unlessRefused, newPid, callWithConfigPid, callSetWrappingPid, callSetOutputLimitPid, callSetAntiWindupPid, callSetLpFilterPid, callSetGainsPid, callResetIntegralPid, callResetIntegralToPid, callEnableIntegralPid, callEnableResetIntegralPid, callUpdateTsPid, callUpdatePid};
+ghost use Rattle.refusal.specs.Refusal.{firstRefusal};
+ghost use Rattle.angle_pid.specs.Pid.{partsRefusal, pidRefusal, idealGain, withParts, zeroPid, grown, stepPid, unlessRefused, newPid, callWithConfigPid, callSetWrappingPid, callSetOutputLimitPid, callSetAntiWindupPid, callSetLpFilterPid, callSetGainsPid, callResetIntegralPid, callResetIntegralToPid, callEnableIntegralPid, callEnableResetIntegralPid, callUpdateTsPid, callUpdatePid};
 use crate::lp_filter::LpFilter;
 use crate::lp_filter::Tau;
 use crate::range::Range;

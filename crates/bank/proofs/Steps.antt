@@ -23,7 +23,7 @@ use Rattle.bank.specs.declared.lane.Op.{Op}
 use Rattle.bank.specs.declared.lane.Op.the-variants.{Open, Close, Update, ReadTerms}
 use Rattle.bank.specs.declared.lane.Stepped.{Stepped}
 use Rattle.bank.specs.declared.Bank.{Bank}
-use Rattle.bank.specs.Lane.{closedLane, openLane, answered, stepped, plainStep, heard, running, whenOpen, whenGood, opened, callLane}
+use Rattle.bank.specs.Lane.{closedLane, openLane, answered, stepped, plainStep, afterSetter, openWith, whenOpen, whenGood, opened, callLane}
 use Rattle.bank.specs.Bank.{put, banked, callBank}
 
 -- ---- a lane's calls
@@ -35,7 +35,7 @@ module _ (l : Lane) where
   shut o r next e = simp (o, e)
 
   module _ (o : l .«open» ≡ true) (r : Stepped) where
-    pub setting : (next call : Changed) → next ≡ call → r ≡ heard next → r ≡ whenOpen l (heard call)
+    pub setting : (next call : Changed) → next ≡ call → r ≡ afterSetter next → r ≡ whenOpen l (afterSetter call)
     unfolding whenOpen
     setting next call e1 e2 = simp (o, e2, e1)
 
@@ -68,7 +68,7 @@ module _ (l : Lane) where
       open-bad b e = simp (o, b, e)
 
       module _ (b : badRatePid (l .pid) ≡ false) (made : RatePid) (e : made ≡ newRatePid kp ki kd tau dt) where
-        pub open-plain : slew ≡ Off → r ≡ running made → r ≡ callLane l (Open kp ki kd tau dt slew)
+        pub open-plain : slew ≡ Off → r ≡ openWith made → r ≡ callLane l (Open kp ki kd tau dt slew)
         unfolding callLane whenGood opened
         open-plain w k = simp (o, b, w, k, e)
 
@@ -77,7 +77,7 @@ module _ (l : Lane) where
           unfolding callLane whenGood opened
           open-limit h k = simp (o, b, w, h, k)
 
-          pub open-slewed : badLimit limit ≡ false → (next : Changed) → next ≡ callSlewRatePid made limit → r ≡ heard next
+          pub open-slewed : badLimit limit ≡ false → (next : Changed) → next ≡ callSlewRatePid made limit → r ≡ afterSetter next
               → r ≡ callLane l (Open kp ki kd tau dt slew)
           unfolding callLane whenGood opened
           open-slewed h next k j = simp (o, b, w, h, j, k, e)

@@ -19,7 +19,7 @@ use Rattle.bank.specs.declared.lane.Op.{Op}
 use Rattle.bank.specs.declared.lane.Op.the-variants.{Update}
 use Rattle.bank.specs.declared.Bank.{Bank}
 use Rattle.bank.specs.Lane.{closedLane, plain, callLane}
-use Rattle.bank.specs.LaneLaws.{openRefusal, laneRefusal, step-refusal, update-refusal-kept, step-leaves, lane-frozen}
+use Rattle.bank.specs.LaneLaws.{needsOpenRefusal, laneRefusal, lane-refusal-is, update-refusal-kept, lane-leaves, lane-frozen}
 use Rattle.bank.specs.Bank.{freshBank, Eight, laneAt, banked, placed, callBank}
 
 pub fresh-eight : Eight freshBank
@@ -37,13 +37,13 @@ bankRefusal b i op = cond (ltb 7 i) Refusal.Lane (laneRefusal (laneAt b i) op)
 module _ (b : Bank) (i : ℕ) (op : Op) where
   -- ---- one call: 8 above lane 7; else the lane's own step at that lane, and nothing else changes
 
-  pub above : 7 < i → callBank b i op ≡ banked (plain Refusal.Lane) b
+  pub call-above : 7 < i → callBank b i op ≡ banked (plain Refusal.Lane) b
   unfolding callBank
-  above h = simp (lt-ltb 7 i h)
+  call-above h = simp (lt-ltb 7 i h)
 
-  pub within : i ≤ 7 → callBank b i op ≡ placed b i (callLane (laneAt b i) op)
+  pub call-within : i ≤ 7 → callBank b i op ≡ placed b i (callLane (laneAt b i) op)
   unfolding callBank
-  within h = simp (le-ltb 7 i h)
+  call-within h = simp (le-ltb 7 i h)
 
   pub step-eight : Eight b → Eight (callBank b i op .bank)
   unfolding callBank
@@ -54,7 +54,7 @@ module _ (b : Bank) (i : ℕ) (op : Op) where
       go false e = simp (e, length-set) n
 
   pub named : i ≤ 7 → Eight b → (callBank b i op .answer ≡ callLane (laneAt b i) op .answer) × (laneAt (callBank b i op .bank) i ≡ callLane (laneAt b i) op .lane)
-  named h n = (simp (within h), simp (within h) (getD-set-same (b .lanes) i _ _ (omega (arith, n))))
+  named h n = (simp (call-within h), simp (call-within h) (getD-set-same (b .lanes) i _ _ (omega (arith, n))))
 
   pub others : (k : ℕ) → (k ≡ i → ⊥) → laneAt (callBank b i op .bank) k ≡ laneAt b k
   unfolding callBank
@@ -72,7 +72,7 @@ module _ (b : Bank) (i : ℕ) (op : Op) where
     where
       go : (t : Bool) → cond t (banked (plain Refusal.Lane) b) (placed b i (callLane (laneAt b i) op)) .answer .refusal ≡ cond t Refusal.Lane (laneRefusal (laneAt b i) op)
       go true = refl
-      go false = step-refusal (laneAt b i) op
+      go false = lane-refusal-is (laneAt b i) op
 
   -- ---- a refused call leaves the bank, and its numbers are +0
 
@@ -83,14 +83,14 @@ module _ (b : Bank) (i : ℕ) (op : Op) where
       go : (t : Bool) → ltb 7 i ≡ t → (callBank b i op .answer .refusal ≡ Refusal.None → ⊥) → (callBank b i op .bank ≡ b) × (callBank b i op .answer ≡ plain (callBank b i op .answer .refusal))
       go true e k = (simp e, simp e)
       go false e k =
-          let left = step-leaves (laneAt b i) op in
+          let left = lane-leaves (laneAt b i) op in
           let k′ : callLane (laneAt b i) op .answer .refusal ≡ Refusal.None → ⊥ = λ h. k (simp e h) in
           (simp (e, left .lane k′) (ap (λ (l : List Lane). record { lanes = l }) (set-getD (b .lanes) i closedLane)), simp e (left .answer k′))
 
 -- ---- what an update of a lane is refused with, whatever it is given
 
 unfoldable pub updateRefusal : Bank → ℕ → Refusal
-updateRefusal b i = cond (ltb 7 i) Refusal.Lane (openRefusal (laneAt b i))
+updateRefusal b i = cond (ltb 7 i) Refusal.Lane (needsOpenRefusal (laneAt b i))
 
 module _ (b : Bank) (i : ℕ) (r m p : Float) where
   pub update-refused-with : callBank b i (Update r m p) .answer .refusal ≡ updateRefusal b i
@@ -106,11 +106,11 @@ module _ (b : Bank) (i : ℕ) (r m p : Float) where
       (λ (h : k ≤ 7). simp (le-ltb 7 k h) (go h (eqb k i) refl))
       (lt-or-le 7 k)
     where
-      go : k ≤ 7 → (t : Bool) → eqb k i ≡ t → openRefusal (laneAt (callBank b i (Update r m p) .bank) k) ≡ openRefusal (laneAt b k)
-      go h false e = ap openRefusal (others b i (Update r m p) k (eqb-false k i e))
+      go : k ≤ 7 → (t : Bool) → eqb k i ≡ t → needsOpenRefusal (laneAt (callBank b i (Update r m p) .bank) k) ≡ needsOpenRefusal (laneAt b k)
+      go h false e = ap needsOpenRefusal (others b i (Update r m p) k (eqb-false k i e))
       go h true e =
-          subst (λ (j : ℕ). openRefusal (laneAt (callBank b j (Update r m p) .bank) k) ≡ openRefusal (laneAt b k)) (eqb-true k i e)
-          (ap openRefusal (named b k (Update r m p) h n .1) ∙ update-refusal-kept (laneAt b k) r m p)
+          subst (λ (j : ℕ). needsOpenRefusal (laneAt (callBank b j (Update r m p) .bank) k) ≡ needsOpenRefusal (laneAt b k)) (eqb-true k i e)
+          (ap needsOpenRefusal (named b k (Update r m p) h n .1) ∙ update-refusal-kept (laneAt b k) r m p)
 
 -- ---- a frozen update leaves the lane's integral and damping filter
 

@@ -42,23 +42,23 @@ stepped a l = record { answer = a; lane = l }
 abbrev pub plainStep : Refusal → Lane → Stepped
 plainStep why l = stepped (plain why) l
 
--- ---- a controller's own call, made on an open lane
+-- ---- a controller's own call, made on an open lane: a setter, a new controller, an update, a read of the terms
 
-abbrev pub heard : Changed → Stepped
-heard next = stepped (plain (next .refusal)) (openLane (next .pid))
+abbrev pub afterSetter : Changed → Stepped
+afterSetter next = stepped (plain (next .refusal)) (openLane (next .pid))
 
-abbrev pub running : RatePid → Stepped
-running s = heard (changedRatePid Refusal.None s)
+abbrev pub openWith : RatePid → Stepped
+openWith s = afterSetter (changedRatePid Refusal.None s)
 
-abbrev pub valued : Updated → Stepped
-valued next = stepped (answered (next .answer .refusal) (next .answer .y) zeroTerms) (openLane (next .pid))
+abbrev pub afterUpdate : Updated → Stepped
+afterUpdate next = stepped (answered (next .answer .refusal) (next .answer .y) zeroTerms) (openLane (next .pid))
 
-abbrev pub read : Lane → Terms → Stepped
-read l t = stepped (answered (t .refusal) F.zero (t .terms)) l
+abbrev pub afterRead : Lane → Terms → Stepped
+afterRead l t = stepped (answered (t .refusal) F.zero (t .terms)) l
 
 -- ---- the step
 
--- 9 comes before anything else
+-- 9, before the controller's own 3
 unfoldable pub whenOpen : Lane → Stepped → Stepped
 whenOpen l next = cond (l .«open») next (plainStep Refusal.Closed l)
 
@@ -68,15 +68,15 @@ whenGood l next = cond (badRatePid (l .pid)) (plainStep Refusal.Slew l) next
 
 -- a new controller, with a limiter if wanted: 3 for the given limit
 unfoldable pub opened : Lane → RatePid → SlewLimit → Stepped
-opened l s Off = running s
-opened l s (At limit) = cond (badLimit limit) (plainStep Refusal.Slew l) (heard (callSlewRatePid s limit))
+opened l s Off = openWith s
+opened l s (At limit) = cond (badLimit limit) (plainStep Refusal.Slew l) (afterSetter (callSlewRatePid s limit))
 
 unfoldable pub callLane : Lane → Op → Stepped
 callLane l (Open kp ki kd tau dt slew) = cond (l .«open») (plainStep Refusal.Open l) (whenGood l (opened l (newRatePid kp ki kd tau dt) slew))
 callLane l Close = whenOpen l (whenGood l (plainStep Refusal.None closedLane))
-callLane l (Update r m p) = whenOpen l (valued (callUpdateRatePid (l .pid) r m p))
-callLane l (SetTs ts) = whenOpen l (heard (callSetTsRatePid (l .pid) ts))
-callLane l (SetGains kp ki kd) = whenOpen l (heard (callSetGainsRatePid (l .pid) kp ki kd))
-callLane l (EnableIntegral on) = whenOpen l (heard (callEnableIntegralRatePid (l .pid) on))
-callLane l ResetIntegral = whenOpen l (heard (callResetIntegralRatePid (l .pid)))
-callLane l ReadTerms = whenOpen l (read l (callGetTermsRatePid (l .pid)))
+callLane l (Update r m p) = whenOpen l (afterUpdate (callUpdateRatePid (l .pid) r m p))
+callLane l (SetTs ts) = whenOpen l (afterSetter (callSetTsRatePid (l .pid) ts))
+callLane l (SetGains kp ki kd) = whenOpen l (afterSetter (callSetGainsRatePid (l .pid) kp ki kd))
+callLane l (EnableIntegral on) = whenOpen l (afterSetter (callEnableIntegralRatePid (l .pid) on))
+callLane l ResetIntegral = whenOpen l (afterSetter (callResetIntegralRatePid (l .pid)))
+callLane l ReadTerms = whenOpen l (afterRead l (callGetTermsRatePid (l .pid)))

@@ -12,14 +12,14 @@ use Rattle.rate_pid.specs.declared.Changed.{Changed}
 use Rattle.rate_pid.specs.declared.Updated.{Updated}
 use Rattle.rate_pid.specs.declared.Terms.{Terms}
 use Rattle.rate_pid.specs.RatePid.{newRatePid, badRatePid, changedRatePid, guarded, callSlewRatePid, callUpdateRatePid, callSetTsRatePid, callSetGainsRatePid, callEnableIntegralRatePid, callResetIntegralRatePid, callGetTermsRatePid}
-use Rattle.rate_pid.specs.RatePidLaws.{update-refused, update-accepted, step-limit, new-limit, slew-accepted, Bounded, Frozen, Stood, update-frozen, zero-bounded, new-bounded, slew-bounded, update-bounded, set-ts-bounded, set-gains-bounded, enable-integral-bounded, reset-integral-bounded}
+use Rattle.rate_pid.specs.RatePidLaws.{update-refused, update-accepted, bad-after-step, new-not-bad, slew-accepted, Bounded, Frozen, Stood, update-frozen, zero-bounded, new-bounded, slew-bounded, update-bounded, set-ts-bounded, set-gains-bounded, enable-integral-bounded, reset-integral-bounded}
 use Rattle.bank.specs.declared.lane.Lane.{Lane}
 use Rattle.bank.specs.declared.lane.SlewLimit.{SlewLimit}
 use Rattle.bank.specs.declared.lane.SlewLimit.the-variants.{Off, At}
 use Rattle.bank.specs.declared.lane.Op.{Op}
 use Rattle.bank.specs.declared.lane.Op.the-variants.{Open, Close, Update, SetTs, SetGains, EnableIntegral, ResetIntegral, ReadTerms}
 use Rattle.bank.specs.declared.lane.Stepped.{Stepped}
-use Rattle.bank.specs.Lane.{closedLane, openLane, plain, plainStep, heard, valued, read, running, whenOpen, whenGood, opened, callLane}
+use Rattle.bank.specs.Lane.{closedLane, openLane, plain, plainStep, afterSetter, afterUpdate, afterRead, openWith, whenOpen, whenGood, opened, callLane}
 
 -- what holds at both ends of a test holds of what it picks
 when-open-has : (P : Stepped → Type 0) (l : Lane) (next : Stepped) → (l .«open» ≡ true → P next) → P (plainStep Refusal.Closed l) → P (whenOpen l next)
@@ -39,12 +39,12 @@ when-good-has P l next h g = go (badRatePid (l .pid))
     go false = h
 
 opened-has : (P : Stepped → Type 0) (l : Lane) (s : RatePid) (slew : SlewLimit)
-    → P (running s) → ((limit : Float) → badLimit limit ≡ false → P (heard (callSlewRatePid s limit))) → P (plainStep Refusal.Slew l) → P (opened l s slew)
+    → P (openWith s) → ((limit : Float) → badLimit limit ≡ false → P (afterSetter (callSlewRatePid s limit))) → P (plainStep Refusal.Slew l) → P (opened l s slew)
 unfolding opened
 opened-has P l s Off h f g = h
 opened-has P l s (At limit) h f g = go (badLimit limit) refl
   where
-    go : (t : Bool) → badLimit limit ≡ t → P (cond t (plainStep Refusal.Slew l) (heard (callSlewRatePid s limit)))
+    go : (t : Bool) → badLimit limit ≡ t → P (cond t (plainStep Refusal.Slew l) (afterSetter (callSlewRatePid s limit)))
     go true e = g
     go false e = f limit e
 
@@ -66,18 +66,18 @@ abbrev pub storedRefusal : Lane → Refusal → Refusal
 storedRefusal l own = cond (badRatePid (l .pid)) Refusal.Slew own
 
 -- any other call than `open`
-abbrev pub openRefusal : Lane → Refusal
-openRefusal l = cond (l .«open») (storedRefusal l Refusal.None) Refusal.Closed
+abbrev pub needsOpenRefusal : Lane → Refusal
+needsOpenRefusal l = cond (l .«open») (storedRefusal l Refusal.None) Refusal.Closed
 
 unfoldable pub laneRefusal : Lane → Op → Refusal
 laneRefusal l (Open kp ki kd tau dt slew) = cond (l .«open») Refusal.Open (storedRefusal l (limitRefusal slew))
-laneRefusal l Close = openRefusal l
-laneRefusal l (Update r m p) = openRefusal l
-laneRefusal l (SetTs ts) = openRefusal l
-laneRefusal l (SetGains kp ki kd) = openRefusal l
-laneRefusal l (EnableIntegral on) = openRefusal l
-laneRefusal l ResetIntegral = openRefusal l
-laneRefusal l ReadTerms = openRefusal l
+laneRefusal l Close = needsOpenRefusal l
+laneRefusal l (Update r m p) = needsOpenRefusal l
+laneRefusal l (SetTs ts) = needsOpenRefusal l
+laneRefusal l (SetGains kp ki kd) = needsOpenRefusal l
+laneRefusal l (EnableIntegral on) = needsOpenRefusal l
+laneRefusal l ResetIntegral = needsOpenRefusal l
+laneRefusal l ReadTerms = needsOpenRefusal l
 
 opened-refusal : (l : Lane) (s : RatePid) (slew : SlewLimit) → badRatePid s ≡ false → opened l s slew .answer .refusal ≡ limitRefusal slew
 unfolding opened
@@ -94,26 +94,26 @@ why s = s .answer .refusal
 abbrev whyChanged : Changed → Refusal
 whyChanged c = c .refusal
 
-pub step-refusal : (l : Lane) (op : Op) → callLane l op .answer .refusal ≡ laneRefusal l op
+pub lane-refusal-is : (l : Lane) (op : Op) → callLane l op .answer .refusal ≡ laneRefusal l op
 unfolding callLane laneRefusal whenOpen whenGood callSetTsRatePid callSetGainsRatePid callEnableIntegralRatePid callResetIntegralRatePid callUpdateRatePid callGetTermsRatePid guarded
-step-refusal l (Open kp ki kd tau dt slew) = simp (read-picked why, opened-refusal l (newRatePid kp ki kd tau dt) slew (new-limit kp ki kd tau dt))
-step-refusal l Close = simp (read-picked why)
-step-refusal l (Update r m p) = simp (read-picked why, read-picked (λ (u : Updated). u .answer .refusal))
-step-refusal l (SetTs ts) = simp (read-picked why, read-picked whyChanged)
-step-refusal l (SetGains kp ki kd) = simp (read-picked why, read-picked whyChanged)
-step-refusal l (EnableIntegral on) = simp (read-picked why, read-picked whyChanged)
-step-refusal l ResetIntegral = simp (read-picked why, read-picked whyChanged)
-step-refusal l ReadTerms = simp (read-picked why, read-picked (λ (t : Terms). t .refusal))
+lane-refusal-is l (Open kp ki kd tau dt slew) = simp (read-picked why, opened-refusal l (newRatePid kp ki kd tau dt) slew (new-not-bad kp ki kd tau dt))
+lane-refusal-is l Close = simp (read-picked why)
+lane-refusal-is l (Update r m p) = simp (read-picked why, read-picked (λ (u : Updated). u .answer .refusal))
+lane-refusal-is l (SetTs ts) = simp (read-picked why, read-picked whyChanged)
+lane-refusal-is l (SetGains kp ki kd) = simp (read-picked why, read-picked whyChanged)
+lane-refusal-is l (EnableIntegral on) = simp (read-picked why, read-picked whyChanged)
+lane-refusal-is l ResetIntegral = simp (read-picked why, read-picked whyChanged)
+lane-refusal-is l ReadTerms = simp (read-picked why, read-picked (λ (t : Terms). t .refusal))
 
 -- an update leaves what the next one meets
-pub update-refusal-kept : (l : Lane) (r m p : Float) → openRefusal (callLane l (Update r m p) .lane) ≡ openRefusal l
+pub update-refusal-kept : (l : Lane) (r m p : Float) → needsOpenRefusal (callLane l (Update r m p) .lane) ≡ needsOpenRefusal l
 unfolding callLane whenOpen
 update-refusal-kept l r m p = go (l .«open») (badRatePid (l .pid)) refl refl
   where
-    go : (o b : Bool) → l .«open» ≡ o → badRatePid (l .pid) ≡ b → openRefusal (callLane l (Update r m p) .lane) ≡ openRefusal l
+    go : (o b : Bool) → l .«open» ≡ o → badRatePid (l .pid) ≡ b → needsOpenRefusal (callLane l (Update r m p) .lane) ≡ needsOpenRefusal l
     go false b eo eb = simp eo
     go true true eo eb = simp (eo, update-refused (l .pid) eb)
-    go true false eo eb = simp (eo, update-accepted (l .pid) eb, step-limit (l .pid))
+    go true false eo eb = simp (eo, update-accepted (l .pid) eb, bad-after-step (l .pid))
 
 -- ---- a refused call leaves the lane, and its numbers are +0
 
@@ -135,45 +135,45 @@ module _ (l : Lane) (o : l .«open» ≡ true) where
   is-open = ap (λ (t : Bool). record { «open» = t; pid = l .pid }) (sym o)
 
   -- a setter of the controller, which its stored limit alone refuses
-  guarded-leaves : (s : RatePid) → Leaves l (heard (guarded (l .pid) (changedRatePid Refusal.None s)))
+  guarded-leaves : (s : RatePid) → Leaves l (afterSetter (guarded (l .pid) (changedRatePid Refusal.None s)))
   unfolding guarded
   guarded-leaves s = go (badRatePid (l .pid))
     where
-      go : (t : Bool) → Leaves l (heard (cond t (changedRatePid Refusal.Slew (l .pid)) (changedRatePid Refusal.None s)))
+      go : (t : Bool) → Leaves l (afterSetter (cond t (changedRatePid Refusal.Slew (l .pid)) (changedRatePid Refusal.None s)))
       go true = record { lane = λ k. is-open; answer = λ k. refl }
       go false = passed l _ refl
 
-  update-leaves : (r m p : Float) → Leaves l (valued (callUpdateRatePid (l .pid) r m p))
+  update-leaves : (r m p : Float) → Leaves l (afterUpdate (callUpdateRatePid (l .pid) r m p))
   unfolding callUpdateRatePid
   update-leaves r m p = go (badRatePid (l .pid)) refl
     where
-      go : (t : Bool) → badRatePid (l .pid) ≡ t → Leaves l (valued (callUpdateRatePid (l .pid) r m p))
+      go : (t : Bool) → badRatePid (l .pid) ≡ t → Leaves l (afterUpdate (callUpdateRatePid (l .pid) r m p))
       go true e = record { lane = λ k. simp e is-open; answer = λ k. simp e }
       go false e = passed l _ (simp e)
 
-terms-leave : (l : Lane) → Leaves l (read l (callGetTermsRatePid (l .pid)))
+terms-leave : (l : Lane) → Leaves l (afterRead l (callGetTermsRatePid (l .pid)))
 unfolding callGetTermsRatePid
 terms-leave l = go (badRatePid (l .pid)) refl
   where
-    go : (t : Bool) → badRatePid (l .pid) ≡ t → Leaves l (read l (callGetTermsRatePid (l .pid)))
+    go : (t : Bool) → badRatePid (l .pid) ≡ t → Leaves l (afterRead l (callGetTermsRatePid (l .pid)))
     go true e = record { lane = λ k. refl; answer = λ k. simp e }
     go false e = passed l _ (simp e)
 
-pub step-leaves : (l : Lane) (op : Op) → Leaves l (callLane l op)
+pub lane-leaves : (l : Lane) (op : Op) → Leaves l (callLane l op)
 unfolding callLane callSetTsRatePid callSetGainsRatePid callEnableIntegralRatePid callResetIntegralRatePid
-step-leaves l (Open kp ki kd tau dt slew) =
+lane-leaves l (Open kp ki kd tau dt slew) =
     open-has (Leaves l) l _
     (opened-has (Leaves l) l (newRatePid kp ki kd tau dt) slew (passed l _ refl)
-    (λ limit g. passed l _ (ap (λ (c : Changed). c .refusal) (slew-accepted _ (new-limit kp ki kd tau dt) limit g)))
+    (λ limit g. passed l _ (ap (λ (c : Changed). c .refusal) (slew-accepted _ (new-not-bad kp ki kd tau dt) limit g)))
     (plain-leaves l _))
     (plain-leaves l _) (plain-leaves l _)
-step-leaves l Close = when-open-has (Leaves l) l _ (λ o. when-good-has (Leaves l) l _ (passed l _ refl) (plain-leaves l _)) (plain-leaves l _)
-step-leaves l (Update r m p) = when-open-has (Leaves l) l _ (λ o. update-leaves l o r m p) (plain-leaves l _)
-step-leaves l (SetTs ts) = when-open-has (Leaves l) l _ (λ o. guarded-leaves l o _) (plain-leaves l _)
-step-leaves l (SetGains kp ki kd) = when-open-has (Leaves l) l _ (λ o. guarded-leaves l o _) (plain-leaves l _)
-step-leaves l (EnableIntegral on) = when-open-has (Leaves l) l _ (λ o. guarded-leaves l o _) (plain-leaves l _)
-step-leaves l ResetIntegral = when-open-has (Leaves l) l _ (λ o. guarded-leaves l o _) (plain-leaves l _)
-step-leaves l ReadTerms = when-open-has (Leaves l) l _ (λ o. terms-leave l) (plain-leaves l _)
+lane-leaves l Close = when-open-has (Leaves l) l _ (λ o. when-good-has (Leaves l) l _ (passed l _ refl) (plain-leaves l _)) (plain-leaves l _)
+lane-leaves l (Update r m p) = when-open-has (Leaves l) l _ (λ o. update-leaves l o r m p) (plain-leaves l _)
+lane-leaves l (SetTs ts) = when-open-has (Leaves l) l _ (λ o. guarded-leaves l o _) (plain-leaves l _)
+lane-leaves l (SetGains kp ki kd) = when-open-has (Leaves l) l _ (λ o. guarded-leaves l o _) (plain-leaves l _)
+lane-leaves l (EnableIntegral on) = when-open-has (Leaves l) l _ (λ o. guarded-leaves l o _) (plain-leaves l _)
+lane-leaves l ResetIntegral = when-open-has (Leaves l) l _ (λ o. guarded-leaves l o _) (plain-leaves l _)
+lane-leaves l ReadTerms = when-open-has (Leaves l) l _ (λ o. terms-leave l) (plain-leaves l _)
 
 -- ---- the integral is NaN or from −1 to 1 in a closed lane, and every call keeps it so
 
@@ -187,18 +187,18 @@ pub closed-bounded : BoundedLane closedLane
 unfolding closedLane
 closed-bounded = zero-bounded
 
-pub step-bounded : (l : Lane) (op : Op) → BoundedLane l → BoundedLane (callLane l op .lane)
+pub lane-bounded : (l : Lane) (op : Op) → BoundedLane l → BoundedLane (callLane l op .lane)
 unfolding callLane
-step-bounded l (Open kp ki kd tau dt slew) b =
+lane-bounded l (Open kp ki kd tau dt slew) b =
     let made = new-bounded kp ki kd tau dt in
     open-has Keeps l _ (opened-has Keeps l _ slew made (λ limit g. slew-bounded _ made limit) b) b b
-step-bounded l Close b = when-open-has Keeps l _ (λ o. when-good-has Keeps l _ closed-bounded b) b
-step-bounded l (Update r m p) b = when-open-has Keeps l _ (λ o. update-bounded _ r m p b) b
-step-bounded l (SetTs ts) b = when-open-has Keeps l _ (λ o. set-ts-bounded _ b ts) b
-step-bounded l (SetGains kp ki kd) b = when-open-has Keeps l _ (λ o. set-gains-bounded _ b kp ki kd) b
-step-bounded l (EnableIntegral on) b = when-open-has Keeps l _ (λ o. enable-integral-bounded _ b on) b
-step-bounded l ResetIntegral b = when-open-has Keeps l _ (λ o. reset-integral-bounded _ b) b
-step-bounded l ReadTerms b = when-open-has Keeps l _ (λ o. b) b
+lane-bounded l Close b = when-open-has Keeps l _ (λ o. when-good-has Keeps l _ closed-bounded b) b
+lane-bounded l (Update r m p) b = when-open-has Keeps l _ (λ o. update-bounded _ r m p b) b
+lane-bounded l (SetTs ts) b = when-open-has Keeps l _ (λ o. set-ts-bounded _ b ts) b
+lane-bounded l (SetGains kp ki kd) b = when-open-has Keeps l _ (λ o. set-gains-bounded _ b kp ki kd) b
+lane-bounded l (EnableIntegral on) b = when-open-has Keeps l _ (λ o. enable-integral-bounded _ b on) b
+lane-bounded l ResetIntegral b = when-open-has Keeps l _ (λ o. reset-integral-bounded _ b) b
+lane-bounded l ReadTerms b = when-open-has Keeps l _ (λ o. b) b
 
 -- ---- a frozen update leaves the integral and the damping filter
 

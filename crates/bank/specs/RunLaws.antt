@@ -10,7 +10,7 @@ use Rattle.bank.specs.declared.lane.Lane.{Lane}
 use Rattle.bank.specs.declared.lane.Op.{Op}
 use Rattle.bank.specs.declared.Bank.{Bank}
 use Rattle.bank.specs.Lane.{callLane}
-use Rattle.bank.specs.LaneLaws.{BoundedLane, closed-bounded, step-bounded}
+use Rattle.bank.specs.LaneLaws.{BoundedLane, closed-bounded, lane-bounded}
 use Rattle.bank.specs.Single.{Single, none, singleMachine, singleRun, singleAfter}
 use Rattle.bank.specs.SingleLaws.{laneOf, Good, step-same}
 use Rattle.bank.specs.Bank.{freshBank, Eight, laneAt, callBank}
@@ -90,4 +90,4 @@ module _ (L : ℕ) (low : L ≤ 7) where
 pub integral-bounded : (calls : List (For Op)) (L : ℕ) → L ≤ 7 → Within F.minusOne F.one (laneAt (after freshBank calls) L .pid .integral)
 integral-bounded calls L h =
     let fresh : BoundedLane (laneAt freshBank L) = subst BoundedLane (sym (fresh-closed L h)) closed-bounded in
-    subst BoundedLane (sym (lane-run L h calls freshBank fresh-eight .stands)) (left-keeps laneMachine BoundedLane step-bounded (ofLane L calls) (laneAt freshBank L) fresh)
+    subst BoundedLane (sym (lane-run L h calls freshBank fresh-eight .stands)) (left-keeps laneMachine BoundedLane lane-bounded (ofLane L calls) (laneAt freshBank L) fresh)

@@ -5,7 +5,7 @@ use mathlib.Core.Bool.{Bool, true, false}
 use Rattle.filters.specs.SlewRate.{badLimit}
 use Rattle.rate_pid.specs.declared.RatePid.{RatePid}
 use Rattle.rate_pid.specs.RatePid.{newRatePid, badRatePid, callSetTsRatePid, callSetGainsRatePid, callEnableIntegralRatePid, callResetIntegralRatePid}
-use Rattle.rate_pid.specs.RatePidLaws.{guard-passed, update-accepted, get-terms-accepted, slew-accepted, zero-limit, new-limit, step-limit, limit-limit, ts-limit, gains-limit, enable-limit, reset-limit}
+use Rattle.rate_pid.specs.RatePidLaws.{guard-passed, update-accepted, get-terms-accepted, slew-accepted, zero-not-bad, new-not-bad, bad-after-step, bad-after-slew, bad-after-set-ts, bad-after-set-gains, bad-after-enable, bad-after-reset}
 use Rattle.bank.specs.declared.lane.Lane.{Lane}
 use Rattle.bank.specs.declared.lane.SlewLimit.{SlewLimit}
 use Rattle.bank.specs.declared.lane.SlewLimit.the-variants.{Off, At}
@@ -37,13 +37,13 @@ opened-same s (At limit) g = go (badLimit limit) refl
   where
     go : (t : Bool) → badLimit limit ≡ t → SameStep (opened closedLane s (At limit)) (openedSingle s (At limit))
     go true e = record { same = simp e; good = simp e tt }
-    go false e = record { same = simp (e, slew-accepted s g limit e); good = simp e (limit-limit s limit ∙ e) }
+    go false e = record { same = simp (e, slew-accepted s g limit e); good = simp e (bad-after-slew s limit ∙ e) }
 
 pub step-same : (c : Single) (op : Op) → Good c → SameStep (callLane (laneOf c) op) (callSingle c op)
 unfolding callLane callSingle whenOpen whenGood closedLane callSetTsRatePid callSetGainsRatePid callEnableIntegralRatePid callResetIntegralRatePid
 step-same none (Open kp ki kd tau dt slew) g =
-    let made = opened-same (newRatePid kp ki kd tau dt) slew (new-limit kp ki kd tau dt) in
-    record { same = simp zero-limit (made .same); good = made .good }
+    let made = opened-same (newRatePid kp ki kd tau dt) slew (new-not-bad kp ki kd tau dt) in
+    record { same = simp zero-not-bad (made .same); good = made .good }
 step-same none Close g = record { same = refl; good = tt }
 step-same none (Update r m p) g = record { same = refl; good = tt }
 step-same none (SetTs ts) g = record { same = refl; good = tt }
@@ -53,9 +53,9 @@ step-same none ResetIntegral g = record { same = refl; good = tt }
 step-same none ReadTerms g = record { same = refl; good = tt }
 step-same (one s) (Open kp ki kd tau dt slew) g = record { same = refl; good = g }
 step-same (one s) Close g = record { same = simp g; good = tt }
-step-same (one s) (Update r m p) g = record { same = simp (update-accepted s g r m p); good = step-limit s r m p ∙ g }
-step-same (one s) (SetTs ts) g = record { same = simp (guard-passed s g); good = ts-limit s ts ∙ g }
-step-same (one s) (SetGains kp ki kd) g = record { same = simp (guard-passed s g); good = gains-limit s kp ki kd ∙ g }
-step-same (one s) (EnableIntegral on) g = record { same = simp (guard-passed s g); good = enable-limit s on ∙ g }
-step-same (one s) ResetIntegral g = record { same = simp (guard-passed s g); good = reset-limit s ∙ g }
+step-same (one s) (Update r m p) g = record { same = simp (update-accepted s g r m p); good = bad-after-step s r m p ∙ g }
+step-same (one s) (SetTs ts) g = record { same = simp (guard-passed s g); good = bad-after-set-ts s ts ∙ g }
+step-same (one s) (SetGains kp ki kd) g = record { same = simp (guard-passed s g); good = bad-after-set-gains s kp ki kd ∙ g }
+step-same (one s) (EnableIntegral on) g = record { same = simp (guard-passed s g); good = bad-after-enable s on ∙ g }
+step-same (one s) ResetIntegral g = record { same = simp (guard-passed s g); good = bad-after-reset s ∙ g }
 step-same (one s) ReadTerms g = record { same = simp (get-terms-accepted s g); good = g }

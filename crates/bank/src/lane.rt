@@ -2,7 +2,7 @@
 // are its calls one by one. A lane that is closed, or open already, is refused before its stored controller is tested,
 // and that before what the call is given. Refused, the lane is as it was.
 ghost use mathlib.Core.Path.{_≡_};
-ghost use Rattle.bank.specs.Lane.{closedLane, running, plainStep, heard, callLane};
+ghost use Rattle.bank.specs.Lane.{closedLane, openWith, plainStep, afterSetter, callLane};
 ghost use Rattle.bank.specs.declared.lane.Op.the-variants as Op;
 use rate_pid::Changed;
 use rate_pid::PidTerms;
@@ -63,8 +63,8 @@ pub struct Stepped {
 }
 
 // A controller's own setter, made on an open lane.
-fn heard(next: Changed) -> Stepped
-    ensures { λ r. ⌜ r ≡ heard next ⌝ }
+fn after_setter(next: Changed) -> Stepped
+    ensures { λ r. ⌜ r ≡ afterSetter next ⌝ }
 {
     let refusal = next.refusal;
     let terms = PidTerms::default();
@@ -79,11 +79,11 @@ fn heard(next: Changed) -> Stepped
 }
 
 // An open lane with this controller, and nothing refused.
-fn running(pid: RatePid) -> Stepped
-    ensures { λ r. ⌜ r ≡ running pid ⌝ }
+fn open_with(pid: RatePid) -> Stepped
+    ensures { λ r. ⌜ r ≡ openWith pid ⌝ }
 {
     let refusal = Refusal::None;
-    heard(Changed { refusal, pid })
+    after_setter(Changed { refusal, pid })
 }
 
 impl Lane {
@@ -120,12 +120,12 @@ impl Lane {
         }
         let made = RatePid::new(kp, ki, kd, tau, dt);
         match slew {
-            SlewLimit::Off => running(made),
+            SlewLimit::Off => open_with(made),
             SlewLimit::At(limit) => {
                 if filters::bad_limit(limit) {
                     return self.plain_step(Refusal::Slew);
                 }
-                heard(made.slew(limit))
+                after_setter(made.slew(limit))
             }
         }
     }
@@ -169,7 +169,7 @@ impl Lane {
     {
         if self.open {
             let old = self.pid;
-            return heard(old.set_ts(ts));
+            return after_setter(old.set_ts(ts));
         }
         self.plain_step(Refusal::Closed)
     }
@@ -179,7 +179,7 @@ impl Lane {
     {
         if self.open {
             let old = self.pid;
-            return heard(old.set_gains(kp, ki, kd));
+            return after_setter(old.set_gains(kp, ki, kd));
         }
         self.plain_step(Refusal::Closed)
     }
@@ -189,7 +189,7 @@ impl Lane {
     {
         if self.open {
             let old = self.pid;
-            return heard(old.enable_integral(enable));
+            return after_setter(old.enable_integral(enable));
         }
         self.plain_step(Refusal::Closed)
     }
@@ -199,7 +199,7 @@ impl Lane {
     {
         if self.open {
             let old = self.pid;
-            return heard(old.reset_integral());
+            return after_setter(old.reset_integral());
         }
         self.plain_step(Refusal::Closed)
     }

@@ -3,11 +3,11 @@
 ghost use mathlib.Core.Path.{_≡_};
 ghost use lib.ListN.{length};
 ghost use Rattle.bench_updates.specs.Updates.{updatesIn};
-ghost use Rattle.bench_bank_calls.specs.Calls.{outAfter};
+ghost use Rattle.bench_bank_calls.specs.Calls.{bankOutAfter};
 
 #[no_mangle]
 pub extern "C" fn plumradek_calls(settings: &[f32], cells: &[f32], out: &mut [f32])
-    ensures { λ _. ⌜ now (out .exit) ≡ outAfter (now (settings .entry)) (now (cells .entry)) (updatesIn (length (now (cells .entry))) (length (now (out .entry)))) (now (out .entry)) ⌝ }
+    ensures { λ _. ⌜ now (out .exit) ≡ bankOutAfter (now (settings .entry)) (now (cells .entry)) (updatesIn (length (now (cells .entry))) (length (now (out .entry)))) (now (out .entry)) ⌝ }
 {
     let n = bench_updates::updates_in(cells.len(), out.len());
     let mut bank = bench_rows::eight(settings);

@@ -2,8 +2,8 @@
 ghost use mathlib.Core.Path.{_≡_};
 ghost use Prim.Native.Nat.{_≤_};
 ghost use lib.ListN.{length};
-ghost use Rattle.rows.specs.Rows.{rowsMade, rowsOut};
-ghost use Rattle.bench_rows.specs.Eight.{limitOf, opened, eightOf};
+ghost use Rattle.rows.specs.Rows.{callUpdateRows, rowsOut};
+ghost use Rattle.bench_rows.specs.Eight.{limitOf, openedBy, eightOf};
 use bank::Bank;
 use bank::SlewLimit;
 
@@ -20,7 +20,7 @@ fn limit_of(limit: f32) -> SlewLimit
 // A lane opened by the five settings from a place on, and the slew limit after them.
 fn opened(s: &[f32], b: Bank, lane: usize, from: usize) -> Bank
     requires { ⌜ from ≤ 42 ⌝ }
-    ensures { λ r. ⌜ r ≡ opened (now (s .entry)) b lane from ⌝ }
+    ensures { λ r. ⌜ r ≡ openedBy (now (s .entry)) b lane from ⌝ }
 {
     let kp = bench_updates::setting(s, from);
     let ki = bench_updates::setting(s, from + 1);
@@ -94,7 +94,7 @@ pub extern "C" fn plumradek_rows_8(settings: &[f32], cells: &[f32], out: &mut [f
 // Answers how many updates were made.
 #[no_mangle]
 pub extern "C" fn plumradek_mixed(settings: &[f32], cells: &[f32], out: &mut [f32]) -> usize
-    ensures { λ r. ⌜ (r ≡ rowsMade (eightOf (now (settings .entry)) 6) 8 (now (cells .entry)) (length (now (out .entry))) .updates) × (now (out .exit) ≡ rowsOut (eightOf (now (settings .entry)) 6) 8 (now (cells .entry)) (now (out .entry))) ⌝ }
+    ensures { λ r. ⌜ (r ≡ callUpdateRows (eightOf (now (settings .entry)) 6) 8 (now (cells .entry)) (length (now (out .entry))) .updates) × (now (out .exit) ≡ rowsOut (eightOf (now (settings .entry)) 6) 8 (now (cells .entry)) (now (out .entry))) ⌝ }
 {
     let bank = eight_by(settings, 6);
     let made = rows::update_rows(bank, 8, cells, out);

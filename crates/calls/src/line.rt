@@ -86,7 +86,7 @@ fn answer_filter(name: &[u8], ops: &[u32], states: &mut [u32], res: &mut [u32]) 
 }
 
 fn answer_motor(name: &[u8], ops: &[u32], states: &mut [u32], res: &mut [u32]) -> CallAnswer {
-    match calls_motors::answer_call(name, ops, states, res) {
+    match calls_motor_statistics::answer_call(name, ops, states, res) {
         CallAnswer::Given(refusal, n) => CallAnswer::Given(refusal, n),
         CallAnswer::NotOurs => answer_controller(name, ops, states, res),
     }

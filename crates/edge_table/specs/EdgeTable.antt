@@ -11,7 +11,7 @@ use Rattle.float.specs.Float.{absF, fifthF, clampF, maxF, minF, negative}
 use Rattle.refusal.specs.declared.Refusal.the-variants as Refusal
 use Rattle.root.specs.Root.{root, rootBits, seek, reaches, fourfold, twiceMiddle, scaled, ofParts}
 use Rattle.func.specs.Func.{callWrap, settled, refused, rise, fall}
-use Rattle.filters.specs.MovingAverage.{callNewMovingAverage, callNewWithValueMovingAverage, callUpdateMovingAverage, badLength, badWindow, windowOf, windowStore, windowMean}
+use Rattle.filters.specs.MovingAverage.{callNewMovingAverage, callNewWithValueMovingAverage, callUpdateMovingAverage, badLength, badWindow, newWithValueMovingAverage, windowStore, windowMean}
 use Rattle.filters.specs.SlewRate.{callNewSlewRate, callUpdateSlewRate, badLimit, slewChange, stepSlewRate}
 use Rattle.filters.specs.declared.moving_average.MovingAverage.{MovingAverage}
 use Rattle.filters.specs.declared.slew_rate.SlewRate.{SlewRate}
@@ -19,7 +19,7 @@ use Rattle.rates.specs.Rates.{applyActual}
 use Rattle.airframe.specs.Airframe as A
 use Rattle.airframe.specs.Airframe.{callQuadXBasic}
 use Rattle.linear_lut.specs.LinearLut.{callGet, among, within, holds, segment}
-use Rattle.motor_lin.specs.MotorLin.{callNewMotorLin, callCommandToForce, callForceToCommand, command, thrust, inForce, inCommand, badMotor, newMotorLin, thrustOf, commandOf}
+use Rattle.motor_lin.specs.MotorLin.{callNewMotorLin, callCommandToForce, callForceToCommand, command, thrust, forceUnlessBad, commandUnlessBad, badMotor, newMotorLin, thrustOf, commandOf}
 
 abbrev b : ℕ → Float
 b n = ofBits binary32 n
@@ -33,7 +33,7 @@ abbrev slewFed : SlewRate → List Float → List Float
 slewFed s [] = []
 slewFed s (x ∷ xs) = callUpdateSlewRate s x .y ∷ slewFed (callUpdateSlewRate s x .filter) xs
 
-pub rows
+pub edge-rows
     -- 1 wrap 7.5 to −1..1: −0.5, 4 steps
     : (callWrap (b 0x40f0_0000) (b 0xbf80_0000) (b 0x3f80_0000) ≡ settled (b 0xbf00_0000) 4)
     -- 2 wrap 1: −1, 1 step
@@ -72,7 +72,7 @@ pub rows
     × (callQuadXBasic (b 0x4000_0000) (b 0) (b 0x3f00_0000) false .refusal ≡ Refusal.RowSum)
 unfolding ofBits Ieee.toBits Ieee.add Ieee.sub Ieee.mul Ieee.div Ieee.neg Ieee.lt Ieee.le Ieee.isNan Ieee.ofInt
     absF fifthF clampF maxF minF negative callWrap rise fall applyActual callGet among within holds segment
-    callNewMovingAverage callNewWithValueMovingAverage callUpdateMovingAverage badLength badWindow windowOf windowStore windowMean callNewSlewRate callUpdateSlewRate badLimit slewChange stepSlewRate
-    callNewMotorLin callCommandToForce callForceToCommand inForce inCommand badMotor newMotorLin thrustOf commandOf root rootBits seek reaches fourfold twiceMiddle scaled ofParts
+    callNewMovingAverage callNewWithValueMovingAverage callUpdateMovingAverage badLength badWindow newWithValueMovingAverage windowStore windowMean callNewSlewRate callUpdateSlewRate badLimit slewChange stepSlewRate
+    callNewMotorLin callCommandToForce callForceToCommand forceUnlessBad commandUnlessBad badMotor newMotorLin thrustOf commandOf root rootBits seek reaches fourfold twiceMiddle scaled ofParts
     A.column A.addSquares A.sums A.sumsOf A.goodSum A.goodSums A.divided A.four A.entries A.zeros A.refusalOf A.matrixOf A.motorsOf A.flat A.table A.signsAt A.rowsFrom A.signed A.frameMotor A.frame A.dirOf A.quadMotors A.mixed A.quad A.callQuadXBasic A.callQuadPBasic
-rows = (refl, refl, refl, refl, refl, refl, refl, λ px py x. refl, refl, refl, refl, refl, refl, refl, refl, refl, refl, refl)
+edge-rows = (refl, refl, refl, refl, refl, refl, refl, λ px py x. refl, refl, refl, refl, refl, refl, refl, refl, refl, refl, refl)

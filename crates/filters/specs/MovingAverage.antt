@@ -25,8 +25,8 @@ badWindow s = badLength (s .length) || ltb (s .length) (s .head)
 -- ---- what the window does, whatever its length and head
 
 -- a new window: the value in the first `length` slots, +0 in the rest; of length 0 it is the all-zero state
-unfoldable pub windowOf : ℕ → Float → MovingAverage
-windowOf length value = record { length = length; head = 0; slots = replicate length value ++ replicate (16 - length) F.zero }
+unfoldable pub newWithValueMovingAverage : ℕ → Float → MovingAverage
+newWithValueMovingAverage length value = record { length = length; head = 0; slots = replicate length value ++ replicate (16 - length) F.zero }
 
 -- the value goes to the head's slot; after the last slot, to slot 0, and the head is 0
 unfoldable pub windowStore : MovingAverage → Float → MovingAverage
@@ -52,7 +52,7 @@ abbrev pub updatedMovingAverage : Refusal → Float → MovingAverage → Moving
 updatedMovingAverage why y s = record { refusal = why; y = y; filter = s }
 
 unfoldable pub callNewWithValueMovingAverage : ℕ → Float → MovingAverageMade
-callNewWithValueMovingAverage length value = cond (badLength length) (madeMovingAverage Refusal.Window (windowOf 0 F.zero)) (madeMovingAverage Refusal.None (windowOf length value))
+callNewWithValueMovingAverage length value = cond (badLength length) (madeMovingAverage Refusal.Window (newWithValueMovingAverage 0 F.zero)) (madeMovingAverage Refusal.None (newWithValueMovingAverage length value))
 
 unfoldable pub callNewMovingAverage : ℕ → MovingAverageMade
 callNewMovingAverage length = callNewWithValueMovingAverage length F.zero

@@ -9,7 +9,7 @@ use Rattle.lemmas.specs.Cases.{of-both, neither}
 use Rattle.float.specs.F32 as F
 use Rattle.refusal.specs.declared.Refusal.the-variants as Refusal
 use Rattle.filters.specs.declared.moving_average.MovingAverage.{MovingAverage}
-use Rattle.filters.specs.MovingAverage.{badLength, badWindow, windowOf, windowStore, windowMean, madeMovingAverage, updatedMovingAverage, callNewWithValueMovingAverage, callUpdateMovingAverage}
+use Rattle.filters.specs.MovingAverage.{badLength, badWindow, newWithValueMovingAverage, windowStore, windowMean, madeMovingAverage, updatedMovingAverage, callNewWithValueMovingAverage, callUpdateMovingAverage}
 
 -- a good window's length is at most 16, so its slots hold it
 pub length-fits : (length : ℕ) → badLength length ≡ false → length ≤ 16
@@ -17,13 +17,13 @@ unfolding badLength
 length-fits length g = ltb-false 16 length (neither (ltb length 1) (ltb 16 length) g .1)
 
 module _ (length : ℕ) (value : Float) where
-  pub new-refused : badLength length ≡ true → callNewWithValueMovingAverage length value ≡ madeMovingAverage Refusal.Window (windowOf 0 F.zero)
+  pub new-average-refused : badLength length ≡ true → callNewWithValueMovingAverage length value ≡ madeMovingAverage Refusal.Window (newWithValueMovingAverage 0 F.zero)
   unfolding callNewWithValueMovingAverage
-  new-refused b = simp b
+  new-average-refused b = simp b
 
-  pub new-accepted : badLength length ≡ false → callNewWithValueMovingAverage length value ≡ madeMovingAverage Refusal.None (windowOf length value)
+  pub new-average-accepted : badLength length ≡ false → callNewWithValueMovingAverage length value ≡ madeMovingAverage Refusal.None (newWithValueMovingAverage length value)
   unfolding callNewWithValueMovingAverage
-  new-accepted g = simp g
+  new-average-accepted g = simp g
 
 module _ (s : MovingAverage) where
   pub window-fits : badWindow s ≡ false → s .length ≤ 16
@@ -34,10 +34,10 @@ module _ (s : MovingAverage) where
   unfolding windowStore
   store-length value = of-both (λ (m : MovingAverage). m .length ≡ s .length) (ltb (s .head) (s .length)) _ _ refl refl
 
-  pub step-refused : (value : Float) → badWindow s ≡ true → callUpdateMovingAverage s value ≡ updatedMovingAverage Refusal.Window F.zero s
+  pub update-average-refused : (value : Float) → badWindow s ≡ true → callUpdateMovingAverage s value ≡ updatedMovingAverage Refusal.Window F.zero s
   unfolding callUpdateMovingAverage
-  step-refused value b = simp b
+  update-average-refused value b = simp b
 
-  pub step-accepted : (value : Float) → badWindow s ≡ false → callUpdateMovingAverage s value ≡ updatedMovingAverage Refusal.None (windowMean (windowStore s value)) (windowStore s value)
+  pub update-average-accepted : (value : Float) → badWindow s ≡ false → callUpdateMovingAverage s value ≡ updatedMovingAverage Refusal.None (windowMean (windowStore s value)) (windowStore s value)
   unfolding callUpdateMovingAverage
-  step-accepted value g = simp g
+  update-average-accepted value g = simp g

@@ -7,27 +7,27 @@ use Rattle.refusal.specs.declared.Refusal.the-variants as Refusal
 use Rattle.filters.specs.declared.slew_rate.SlewRate.{SlewRate}
 use Rattle.filters.specs.SlewRate.{badLimit, slewOf, stepSlewRate, setDtSlewRate, changedSlewRate, updatedSlewRate, callNewSlewRate, callSetDtSlewRate, callUpdateSlewRate}
 
-pub new-refused : (limit dt : Float) → badLimit limit ≡ true → callNewSlewRate limit dt ≡ changedSlewRate Refusal.Slew (slewOf F.zero F.zero F.zero)
+pub new-slew-refused : (limit dt : Float) → badLimit limit ≡ true → callNewSlewRate limit dt ≡ changedSlewRate Refusal.Slew (slewOf F.zero F.zero F.zero)
 unfolding callNewSlewRate
-new-refused limit dt b = simp b
+new-slew-refused limit dt b = simp b
 
-pub new-accepted : (limit dt : Float) → badLimit limit ≡ false → callNewSlewRate limit dt ≡ changedSlewRate Refusal.None (slewOf limit F.zero dt)
+pub new-slew-accepted : (limit dt : Float) → badLimit limit ≡ false → callNewSlewRate limit dt ≡ changedSlewRate Refusal.None (slewOf limit F.zero dt)
 unfolding callNewSlewRate
-new-accepted limit dt g = simp g
+new-slew-accepted limit dt g = simp g
 
 module _ (s : SlewRate) (x : Float) where
-  pub set-dt-refused : badLimit (s .«rate_limit») ≡ true → callSetDtSlewRate s x ≡ changedSlewRate Refusal.Slew s
+  pub set-dt-slew-refused : badLimit (s .«rate_limit») ≡ true → callSetDtSlewRate s x ≡ changedSlewRate Refusal.Slew s
   unfolding callSetDtSlewRate
-  set-dt-refused b = simp b
+  set-dt-slew-refused b = simp b
 
-  pub set-dt-accepted : badLimit (s .«rate_limit») ≡ false → callSetDtSlewRate s x ≡ changedSlewRate Refusal.None (setDtSlewRate s x)
+  pub set-dt-slew-accepted : badLimit (s .«rate_limit») ≡ false → callSetDtSlewRate s x ≡ changedSlewRate Refusal.None (setDtSlewRate s x)
   unfolding callSetDtSlewRate
-  set-dt-accepted g = simp g
+  set-dt-slew-accepted g = simp g
 
-  pub step-refused : badLimit (s .«rate_limit») ≡ true → callUpdateSlewRate s x ≡ updatedSlewRate Refusal.Slew F.zero s
+  pub update-slew-refused : badLimit (s .«rate_limit») ≡ true → callUpdateSlewRate s x ≡ updatedSlewRate Refusal.Slew F.zero s
   unfolding callUpdateSlewRate
-  step-refused b = simp b
+  update-slew-refused b = simp b
 
-  pub step-accepted : badLimit (s .«rate_limit») ≡ false → callUpdateSlewRate s x ≡ updatedSlewRate Refusal.None (stepSlewRate s x .signal) (stepSlewRate s x)
+  pub update-slew-accepted : badLimit (s .«rate_limit») ≡ false → callUpdateSlewRate s x ≡ updatedSlewRate Refusal.None (stepSlewRate s x .signal) (stepSlewRate s x)
   unfolding callUpdateSlewRate
-  step-accepted g = simp g
+  update-slew-accepted g = simp g

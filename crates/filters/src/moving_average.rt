@@ -2,7 +2,7 @@
 // a state built by hand too, refuses a length that is not 1 to 16, or a head above the length.
 ghost use mathlib.Core.Path.{_≡_};
 ghost use Prim.Native.Nat.{_≤_};
-ghost use Rattle.filters.specs.MovingAverage.{badLength, badWindow, windowOf, windowStore, windowMean, callNewMovingAverage, callNewWithValueMovingAverage, callUpdateMovingAverage};
+ghost use Rattle.filters.specs.MovingAverage.{badLength, badWindow, newWithValueMovingAverage, windowStore, windowMean, callNewMovingAverage, callNewWithValueMovingAverage, callUpdateMovingAverage};
 use refusal::Refusal;
 
 pub struct MovingAverage {
@@ -36,7 +36,7 @@ fn bad_length(length: usize) -> bool
 // A new window. One of length 0 is the all-zero state.
 fn filled(length: usize, value: f32) -> MovingAverage
     requires { ⌜ length ≤ 16 ⌝ }
-    ensures { λ r. ⌜ r ≡ windowOf length value ⌝ }
+    ensures { λ r. ⌜ r ≡ newWithValueMovingAverage length value ⌝ }
 {
     let mut slots = [0.0f32; 16];
     let mut i = 0;

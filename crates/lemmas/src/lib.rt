@@ -1,1 +1,1 @@
-// No code: specs/Cases.antt has the general lemmas on tests and whole numbers that the laws and proofs of every crate cite.
+// No code: general lemmas, on tests and whole numbers in specs/Cases.antt and on lists in specs/Lists.antt.

@@ -61,20 +61,20 @@ callNewMotorLin a b min max = cond (badMotor (newMotorLin a b min max))
     (record { refusal = Refusal.None; motor = newMotorLin a b min max })
 
 -- an answer in thrust, and one in command: +0 where the motor is refused
-unfoldable pub inForce : MotorLin → Thrust → Forced
-inForce m f = cond (badMotor m) (record { refusal = Refusal.Motor; force = thrust F.zero }) (record { refusal = Refusal.None; force = f })
+unfoldable pub forceUnlessBad : MotorLin → Thrust → Forced
+forceUnlessBad m f = cond (badMotor m) (record { refusal = Refusal.Motor; force = thrust F.zero }) (record { refusal = Refusal.None; force = f })
 
-unfoldable pub inCommand : MotorLin → Command → Commanded
-inCommand m c = cond (badMotor m) (record { refusal = Refusal.Motor; command = command F.zero }) (record { refusal = Refusal.None; command = c })
+unfoldable pub commandUnlessBad : MotorLin → Command → Commanded
+commandUnlessBad m c = cond (badMotor m) (record { refusal = Refusal.Motor; command = command F.zero }) (record { refusal = Refusal.None; command = c })
 
 unfoldable pub callCommandToForce : MotorLin → Command → Forced
-callCommandToForce m c = inForce m (thrust (thrustOf (m .a) (m .b) (m .«c_min» .0) (m .«c_max» .0) (c .0)))
+callCommandToForce m c = forceUnlessBad m (thrust (thrustOf (m .a) (m .b) (m .«c_min» .0) (m .«c_max» .0) (c .0)))
 
 unfoldable pub callForceToCommand : MotorLin → Thrust → Commanded
-callForceToCommand m f = inCommand m (command (commandOf (m .a) (m .b) (m .«f_min» .0) (m .«f_max» .0) (f .0)))
+callForceToCommand m f = commandUnlessBad m (command (commandOf (m .a) (m .b) (m .«f_min» .0) (m .«f_max» .0) (f .0)))
 
 unfoldable pub callMinForce : MotorLin → Forced
-callMinForce m = inForce m (m .«f_min»)
+callMinForce m = forceUnlessBad m (m .«f_min»)
 
 unfoldable pub callMaxForce : MotorLin → Forced
-callMaxForce m = inForce m (m .«f_max»)
+callMaxForce m = forceUnlessBad m (m .«f_max»)

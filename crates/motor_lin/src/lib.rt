@@ -1,6 +1,6 @@
 // motor_lin.rs: the curve between a motor's command and its thrust.
 ghost use mathlib.Core.Path.{_≡_};
-ghost use Rattle.motor_lin.specs.MotorLin.{thrustOf, commandOf, badMotor, zeroMotor, newMotorLin, inForce, inCommand, callNewMotorLin, callCommandToForce, callForceToCommand, callMinForce, callMaxForce};
+ghost use Rattle.motor_lin.specs.MotorLin.{thrustOf, commandOf, badMotor, zeroMotor, newMotorLin, forceUnlessBad, commandUnlessBad, callNewMotorLin, callCommandToForce, callForceToCommand, callMinForce, callMaxForce};
 use refusal::Refusal;
 
 // The two units. One is not accepted where the other is asked for.
@@ -115,8 +115,8 @@ impl MotorLin {
     }
 
     // An answer in thrust, and one in command: +0 where the motor is refused.
-    fn in_force(self, force: Thrust) -> Forced
-        ensures { λ r. ⌜ r ≡ inForce self force ⌝ }
+    fn force_unless_bad(self, force: Thrust) -> Forced
+        ensures { λ r. ⌜ r ≡ forceUnlessBad self force ⌝ }
     {
         if self.bad() {
             let refusal = Refusal::Motor;
@@ -130,8 +130,8 @@ impl MotorLin {
         Forced { refusal, force }
     }
 
-    fn in_command(self, command: Command) -> Commanded
-        ensures { λ r. ⌜ r ≡ inCommand self command ⌝ }
+    fn command_unless_bad(self, command: Command) -> Commanded
+        ensures { λ r. ⌜ r ≡ commandUnlessBad self command ⌝ }
     {
         if self.bad() {
             let refusal = Refusal::Motor;
@@ -151,7 +151,7 @@ impl MotorLin {
         let low = self.c_min;
         let high = self.c_max;
         let force = Thrust(thrust_of(self.a, self.b, low.0, high.0, command.0));
-        self.in_force(force)
+        self.force_unless_bad(force)
     }
 
     pub fn force_to_command(self, force: Thrust) -> Commanded
@@ -160,20 +160,20 @@ impl MotorLin {
         let low = self.f_min;
         let high = self.f_max;
         let command = Command(command_of(self.a, self.b, low.0, high.0, force.0));
-        self.in_command(command)
+        self.command_unless_bad(command)
     }
 
     pub fn min_force(self) -> Forced
         ensures { λ r. ⌜ r ≡ callMinForce self ⌝ }
     {
         let force = self.f_min;
-        self.in_force(force)
+        self.force_unless_bad(force)
     }
 
     pub fn max_force(self) -> Forced
         ensures { λ r. ⌜ r ≡ callMaxForce self ⌝ }
     {
         let force = self.f_max;
-        self.in_force(force)
+        self.force_unless_bad(force)
     }
 }

@@ -15,7 +15,7 @@ use Rattle.lemmas.specs.Cases.{and-left, and-right}
 use Rattle.npy.specs.declared.reader.Head.{Head}
 use Rattle.npy.specs.Text.{byteWithin, isDigit, leadCount, endOf, decimal, rowsAt, rowsEnd, colsAt, colsEnd, placesOf, spelled}
 use Rattle.npy.specs.TextLaws.{spelled-parts, number-size}
-use Rattle.npy.specs.Header.{refusedHead, acceptedHead, isAccepted, textHead, textFits, textLength, headerW, lengthWidth, headerOf}
+use Rattle.npy.specs.Header.{refusedHead, acceptedHead, isAccepted, textHead, textFits, textLength, headerOfWidth, lengthWidth, callHeader}
 use Rattle.npy.specs.HeaderLaws.{fits-parts, width-small}
 
 abbrev pub textOf : List ℕ → List ℕ
@@ -26,7 +26,7 @@ pub record AcceptedHeader (s : List ℕ) : Type 0 where
   pub lengthy : 8 + lengthWidth s ≤ length s
   pub fits : textFits (textLength (lengthWidth s) s) (8 + lengthWidth s) (length s) ≡ true
   pub spells : spelled (textOf s) (placesOf (textOf s)) ≡ true
-  pub reads : headerOf s ≡ textHead (textOf s) (8 + lengthWidth s + textLength (lengthWidth s) s)
+  pub reads : callHeader s ≡ textHead (textOf s) (8 + lengthWidth s + textLength (lengthWidth s) s)
 
 accepted-first : (b : Bool) (x y : Head) → isAccepted y ≡ false → isAccepted (cond b x y) ≡ true → b ≡ true
 accepted-first true x y e h = refl
@@ -36,13 +36,13 @@ accepted-second : (b : Bool) (x y : Head) → isAccepted x ≡ false → isAccep
 accepted-second true x y e h = sym h ∙ e
 accepted-second false x y e h = refl
 
-pub accepted-parts : (s : List ℕ) → isAccepted (headerOf s) ≡ true → AcceptedHeader s
-unfolding headerOf headerW textHead refusedHead passes
+pub accepted-parts : (s : List ℕ) → isAccepted (callHeader s) ≡ true → AcceptedHeader s
+unfolding callHeader headerOfWidth textHead refusedHead passes
 accepted-parts s h =
     let w = lengthWidth s in
     let n = textLength (lengthWidth s) s in
-    let k : eqb (lengthWidth s) 0 ≡ false = accepted-second (eqb (lengthWidth s) 0) (refusedHead Refusal.Magic) (headerW (lengthWidth s) s) refl h in
-    let h1 : isAccepted (headerW (lengthWidth s) s) ≡ true = rw k at h in
+    let k : eqb (lengthWidth s) 0 ≡ false = accepted-second (eqb (lengthWidth s) 0) (refusedHead Refusal.Magic) (headerOfWidth (lengthWidth s) s) refl h in
+    let h1 : isAccepted (headerOfWidth (lengthWidth s) s) ≡ true = rw k at h in
     let f : (leb (8 + lengthWidth s) (length s) && textFits n (8 + lengthWidth s) (length s)) ≡ true =
     accepted-first (leb (8 + lengthWidth s) (length s) && textFits n (8 + lengthWidth s) (length s)) (textHead (textOf s) (8 + lengthWidth s + n)) (refusedHead Refusal.Header) refl h1 in
     let h2 : isAccepted (textHead (textOf s) (8 + lengthWidth s + n)) ≡ true = rw f at h1 in
@@ -61,11 +61,11 @@ unfolding textHead acceptedHead
 text-at t at e = rw e
 
 -- the place of the data: a multiple of 16, 1,012 at most
-pub data-place : (s : List ℕ) → isAccepted (headerOf s) ≡ true
-    → (headerOf s .at ≡ 8 + lengthWidth s + textLength (lengthWidth s) s) × (headerOf s .at % 16 ≡ 0) × (headerOf s .at ≤ 1012)
+pub data-place : (s : List ℕ) → isAccepted (callHeader s) ≡ true
+    → (callHeader s .at ≡ 8 + lengthWidth s + textLength (lengthWidth s) s) × (callHeader s .at % 16 ≡ 0) × (callHeader s .at ≤ 1012)
 data-place s h =
     let a = accepted-parts s h in
-    let p : headerOf s .at ≡ 8 + lengthWidth s + textLength (lengthWidth s) s = ap (λ (x : Head). x .at) (a .reads) ∙ text-at (textOf s) _ (a .spells) in
+    let p : callHeader s .at ≡ 8 + lengthWidth s + textLength (lengthWidth s) s = ap (λ (x : Head). x .at) (a .reads) ∙ text-at (textOf s) _ (a .spells) in
     let f = fits-parts _ _ _ (a .fits) in
     let w = width-small s in
     (p, rw p (f .3), omega arith)
@@ -108,5 +108,5 @@ shape-of t at e =
     rw e
     (decimal-small t (rowsAt t) (rowsEnd t - rowsAt t) refl (number-size _ _ (p .rows) .1), decimal-small t (colsAt t) (colsEnd t - colsAt t) refl (number-size _ _ (p .cols) .1))
 
-pub shape-small : (s : List ℕ) → isAccepted (headerOf s) ≡ true → (headerOf s .rows < 10 ^ 9) × (headerOf s .cols < 10 ^ 9)
+pub shape-small : (s : List ℕ) → isAccepted (callHeader s) ≡ true → (callHeader s .rows < 10 ^ 9) × (callHeader s .cols < 10 ^ 9)
 shape-small s h = let a = accepted-parts s h in rw (a .reads) (shape-of (textOf s) _ (a .spells))

@@ -15,7 +15,7 @@ use borrow.Author.Tests.{leb-true, eqb-true}
 use Rattle.lemmas.specs.Cases.{and-left, and-right}
 use Rattle.npy.specs.Text.{begins, byteWithin, isKindByte, isDigit, isSpace, leadCount, endOf, isNumber, beforeKind, beforeRows, beforeCols, afterCols, lineFeed, kindEnd, rowsAt, rowsEnd, colsAt, colsEnd, feedAt, placesOf, spelled}
 use Rattle.npy.specs.TextLaws.{lead-within, end-within, spelled-parts, number-size}
-use Rattle.npy.specs.Header.{magic, isAccepted, textLength, lengthWidth, headerOf}
+use Rattle.npy.specs.Header.{magic, isAccepted, textLength, lengthWidth, callHeader}
 use Rattle.npy.specs.HeaderLaws.{fits-parts}
 use Rattle.npy.specs.AcceptedHeader.{accepted-parts, textOf, data-place}
 use Rattle.npy.specs.Spelling.{allPass, HeaderParts, spaces, headerText, headerBytes, Framed, SpelledHeader}
@@ -188,8 +188,8 @@ framed-start s g =
     let c7 : drop 7 s ≡ getD s 7 0 ∷ drop 8 s = drop-cons s 7 0 (omega arith) in
     begins-is magic s b ∙ ap (λ (t : List ℕ). magic ++ t) (c6 ∙ ap (λ (t : List ℕ). getD s 6 0 ∷ t) (c7 ∙ ap (λ (x : ℕ). x ∷ drop 8 s) z) ∙ ap (λ (x : ℕ). x ∷ (0 ∷ drop 8 s)) (k .1 .0))
 
-pub accepted-framed : (s : List ℕ) → isAccepted (headerOf s) ≡ true
-    → Framed (lengthWidth s) (take (lengthWidth s) (drop 8 s)) (textOf s) × (s ≡ headerBytes (lengthWidth s) (take (lengthWidth s) (drop 8 s)) (textOf s) (drop (headerOf s .at) s))
+pub accepted-framed : (s : List ℕ) → isAccepted (callHeader s) ≡ true
+    → Framed (lengthWidth s) (take (lengthWidth s) (drop 8 s)) (textOf s) × (s ≡ headerBytes (lengthWidth s) (take (lengthWidth s) (drop 8 s)) (textOf s) (drop (callHeader s .at) s))
 unfolding textLength
 accepted-framed s h =
     let a = accepted-parts s h in
@@ -200,7 +200,7 @@ accepted-framed s h =
     let tl : length (textOf s) ≡ textLength (lengthWidth s) s = length-take-le _ _ n in
     let e8 : drop 8 s ≡ take (lengthWidth s) (drop 8 s) ++ drop (8 + lengthWidth s) s =
     sym (take-append-drop (lengthWidth s) (drop 8 s)) ∙ ap (λ (m : List ℕ). take (lengthWidth s) (drop 8 s) ++ m) (drop-drop (lengthWidth s) 8 s) in
-    let et : drop (8 + lengthWidth s) s ≡ textOf s ++ drop (headerOf s .at) s =
+    let et : drop (8 + lengthWidth s) s ≡ textOf s ++ drop (callHeader s .at) s =
     sym (take-append-drop (textLength (lengthWidth s) s) (drop (8 + lengthWidth s) s)) ∙ ap (λ (m : List ℕ). textOf s ++ m) (drop-drop (textLength (lengthWidth s) s) (8 + lengthWidth s) s ∙ ap (λ (k : ℕ). drop k s) (sym (d .0))) in (
       record {
         width = version-known s (a .known) .1 .1;
@@ -214,7 +214,7 @@ accepted-framed s h =
 
 -- ---- so it is spelled as document 01 spells it
 
-pub accepted-spelled : (s : List ℕ) → isAccepted (headerOf s) ≡ true → SpelledHeader s
+pub accepted-spelled : (s : List ℕ) → isAccepted (callHeader s) ≡ true → SpelledHeader s
 accepted-spelled s h =
     let a = accepted-parts s h in
     let f = accepted-framed s h in
@@ -226,8 +226,8 @@ accepted-spelled s h =
       r = rOf (textOf s);
       c = cOf (textOf s);
       n = spaceCount (textOf s);
-      rest = drop (headerOf s .at) s;
+      rest = drop (callHeader s .at) s;
       parts = spelled-header-parts (textOf s) (a .spells);
       framed = subst (λ (t : List ℕ). Framed (lengthWidth s) (take (lengthWidth s) (drop 8 s)) t) e (f .0);
-      is = f .1 ∙ ap (λ (t : List ℕ). headerBytes (lengthWidth s) (take (lengthWidth s) (drop 8 s)) t (drop (headerOf s .at) s)) e;
+      is = f .1 ∙ ap (λ (t : List ℕ). headerBytes (lengthWidth s) (take (lengthWidth s) (drop 8 s)) t (drop (callHeader s .at) s)) e;
     }

@@ -51,8 +51,8 @@ unfoldable pub textLength : ℕ → List ℕ → ℕ
 textLength w s = lowFirst (take w (drop 8 s))
 
 -- the header whose text's length has w bytes
-unfoldable pub headerW : ℕ → List ℕ → Head
-headerW w s =
+unfoldable pub headerOfWidth : ℕ → List ℕ → Head
+headerOfWidth w s =
     cond (leb (8 + w) (length s) && textFits (textLength w s) (8 + w) (length s))
     (textHead (take (textLength w s) (drop (8 + w) s)) (8 + w + textLength w s))
     (refusedHead Refusal.Header)
@@ -68,12 +68,12 @@ lengthWidth s =
     (cond (eqb (getD s 6 0) 1) 2 (cond (eqb (getD s 6 0) 2) 4 0))
     0
 
-unfoldable pub headerOf : List ℕ → Head
-headerOf s = cond (eqb (lengthWidth s) 0) (refusedHead Refusal.Magic) (headerW (lengthWidth s) s)
+unfoldable pub callHeader : List ℕ → Head
+callHeader s = cond (eqb (lengthWidth s) 0) (refusedHead Refusal.Magic) (headerOfWidth (lengthWidth s) s)
 
 -- everything after the header; nothing where it is refused
 unfoldable pub dataOf : List ℕ → List ℕ
-dataOf s = cond (isAccepted (headerOf s)) (drop (headerOf s .at) s) []
+dataOf s = cond (isAccepted (callHeader s)) (drop (callHeader s .at) s) []
 
 -- a place of the memory block that a slice begins in: so many bytes after its start
 abbrev pub placeIn : ℕ × ℕ → ℕ → ℕ × ℕ

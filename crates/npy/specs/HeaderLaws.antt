@@ -20,7 +20,7 @@ use Rattle.npy.specs.declared.reader.Kind.{Kind}
 use Rattle.npy.specs.declared.reader.Head.{Head}
 use Rattle.npy.specs.declared.reader.Places.{Places}
 use Rattle.npy.specs.Text.{begins, decimal, kindOf, kindEnd, rowsAt, rowsEnd, colsAt, colsEnd, placesOf, spelled}
-use Rattle.npy.specs.Header.{lowFirst, magic, refusedHead, acceptedHead, isAccepted, textHead, textFits, textLength, headerW, lengthWidth, headerOf, dataOf, placeIn}
+use Rattle.npy.specs.Header.{lowFirst, magic, refusedHead, acceptedHead, isAccepted, textHead, textFits, textLength, headerOfWidth, lengthWidth, callHeader, dataOf, placeIn}
 
 -- one byte more of a number, from the high end: what is past the end counts as 0
 pub low-more : (s : List ℕ) (w i v : ℕ) → 0 < i → i ≤ w → v ≡ lowFirst (take (w - i) (drop i s))
@@ -79,8 +79,8 @@ good-text t at p b k r c hp hb h hk hr hc =
     let c' : c ≡ decimal 0 (take (colsEnd t - colsAt t) (drop (colsAt t) t)) = hc ∙ ap (λ (q : Places). decimal 0 (take (q .«cols_end» - q .cols) (drop (q .cols) t))) hp in
     rw e (rw (k', r', c'))
 
-pub length-cut : (w : ℕ) (s : List ℕ) → length s < 8 + w → refusedHead Refusal.Header ≡ headerW w s
-unfolding headerW
+pub length-cut : (w : ℕ) (s : List ℕ) → length s < 8 + w → refusedHead Refusal.Header ≡ headerOfWidth w s
+unfolding headerOfWidth
 length-cut w s h = simp (lt-leb _ _ h)
 
 pub text-length : (w n : ℕ) (s : List ℕ) → n ≡ lowFirst (take w (take (length s - 8) (drop 8 s))) → n ≡ textLength w s
@@ -91,15 +91,15 @@ both-false : (a : Bool) (x y : Head) → y ≡ cond (a && false) x y
 both-false true x y = refl
 both-false false x y = refl
 
-pub text-misfits : (w n : ℕ) (s : List ℕ) (b : Bool) → n ≡ textLength w s → b ≡ textFits n (8 + w) (length s) → b ≡ false → refusedHead Refusal.Header ≡ headerW w s
-unfolding headerW
+pub text-misfits : (w n : ℕ) (s : List ℕ) (b : Bool) → n ≡ textLength w s → b ≡ textFits n (8 + w) (length s) → b ≡ false → refusedHead Refusal.Header ≡ headerOfWidth w s
+unfolding headerOfWidth
 text-misfits w n s b hn hb h =
     let e : textFits (textLength w s) (8 + w) (length s) ≡ false = sym (hb ∙ rw hn) ∙ h in
     rw e (both-false (leb (8 + w) (length s)) (textHead (take (textLength w s) (drop (8 + w) s)) (8 + w + textLength w s)) (refusedHead Refusal.Header))
 
 pub text-read : (w n : ℕ) (s : List ℕ) (b : Bool) → 8 + w ≤ length s → n ≡ textLength w s → b ≡ textFits n (8 + w) (length s) → b ≡ true
-    → textHead (take (8 + w + n - (8 + w)) (drop (8 + w) s)) (8 + w + n) ≡ headerW w s
-unfolding headerW
+    → textHead (take (8 + w + n - (8 + w)) (drop (8 + w) s)) (8 + w + n) ≡ headerOfWidth w s
+unfolding headerOfWidth
 text-read w n s b hl hn hb h =
     let e : textFits (textLength w s) (8 + w) (length s) ≡ true = sym (hb ∙ rw hn) ∙ h in
     rw (le-leb _ _ hl, e, ← hn, add-sub-cancel-left)
@@ -131,8 +131,8 @@ at-of : (b : Bool) (x y : Head) (n : ℕ) → (b ≡ true → x .at ≤ n) → y
 at-of true x y n hx hy = hx refl
 at-of false x y n hx hy = hy
 
-pub at-within : (s : List ℕ) → headerOf s .at ≤ length s
-unfolding headerOf headerW textHead acceptedHead refusedHead
+pub at-within : (s : List ℕ) → callHeader s .at ≤ length s
+unfolding callHeader headerOfWidth textHead acceptedHead refusedHead
 at-within s =
     at-of (eqb (lengthWidth s) 0) _ _ (length s) (λ e. omega arith)
     (at-of (leb (8 + lengthWidth s) (length s) && textFits (textLength (lengthWidth s) s) (8 + lengthWidth s) (length s)) _ _ (length s)
@@ -142,19 +142,19 @@ at-within s =
     (omega arith))
     (omega arith))
 
-pub no-width : (s : List ℕ) (w : ℕ) → w ≡ lengthWidth s → w ≡ 0 → refusedHead Refusal.Magic ≡ headerOf s
-unfolding headerOf
+pub no-width : (s : List ℕ) (w : ℕ) → w ≡ lengthWidth s → w ≡ 0 → refusedHead Refusal.Magic ≡ callHeader s
+unfolding callHeader
 no-width s w h e = let z : lengthWidth s ≡ 0 = sym h ∙ e in simp (eq-eqb _ _ z)
 
-pub by-width : (s : List ℕ) (w : ℕ) → w ≡ lengthWidth s → (w ≡ 0 → ⊥) → headerW w s ≡ headerOf s
-unfolding headerOf
+pub by-width : (s : List ℕ) (w : ℕ) → w ≡ lengthWidth s → (w ≡ 0 → ⊥) → headerOfWidth w s ≡ callHeader s
+unfolding callHeader
 by-width s w h e = rw (← h, ne-eqb w 0 e)
 
-pub data-refused : (s : List ℕ) (h : Head) (t : Bool) → h ≡ headerOf s → t ≡ isAccepted h → t ≡ false → [] ≡ dataOf s
+pub data-refused : (s : List ℕ) (h : Head) (t : Bool) → h ≡ callHeader s → t ≡ isAccepted h → t ≡ false → [] ≡ dataOf s
 unfolding dataOf
 data-refused s h t e et g = rw (← e, ← et, g)
 
-pub data-given : (s : List ℕ) (h : Head) (t : Bool) → h ≡ headerOf s → t ≡ isAccepted h → t ≡ true → take (length s - h .at) (drop (h .at) s) ≡ dataOf s
+pub data-given : (s : List ℕ) (h : Head) (t : Bool) → h ≡ callHeader s → t ≡ isAccepted h → t ≡ true → take (length s - h .at) (drop (h .at) s) ≡ dataOf s
 unfolding dataOf
 data-given s h t e et g = to-end s (h .at) ∙ rw (← e, ← et, g)
 
@@ -178,16 +178,16 @@ bare-text : (t : List ℕ) (at : ℕ) → Bare (textHead t at)
 unfolding textHead
 bare-text t at = bare-of (spelled t (placesOf t)) (acceptedHead _ _ _ at) (refusedHead Refusal.Header) (bare-accepted _ _ _ at) (bare-refused Refusal.Header)
 
-pub refused-is : (s : List ℕ) → isAccepted (headerOf s) ≡ false → headerOf s ≡ refusedHead (headerOf s .refusal)
-unfolding headerOf headerW
+pub refused-is : (s : List ℕ) → isAccepted (callHeader s) ≡ false → callHeader s ≡ refusedHead (callHeader s .refusal)
+unfolding callHeader headerOfWidth
 refused-is s =
-    bare-of (eqb (lengthWidth s) 0) (refusedHead Refusal.Magic) (headerW (lengthWidth s) s) (bare-refused Refusal.Magic)
+    bare-of (eqb (lengthWidth s) 0) (refusedHead Refusal.Magic) (headerOfWidth (lengthWidth s) s) (bare-refused Refusal.Magic)
     (bare-of (leb (8 + lengthWidth s) (length s) && textFits (textLength (lengthWidth s) s) (8 + lengthWidth s) (length s))
     (textHead (take (textLength (lengthWidth s) s) (drop (8 + lengthWidth s) s)) (8 + lengthWidth s + textLength (lengthWidth s) s)) (refusedHead Refusal.Header)
     (bare-text (take (textLength (lengthWidth s) s) (drop (8 + lengthWidth s) s)) (8 + lengthWidth s + textLength (lengthWidth s) s))
     (bare-refused Refusal.Header))
 
-pub refused-at : (s : List ℕ) (h : Head) (t : Bool) → h ≡ headerOf s → t ≡ isAccepted h → t ≡ false → headerOf s .at ≡ 0
+pub refused-at : (s : List ℕ) (h : Head) (t : Bool) → h ≡ callHeader s → t ≡ isAccepted h → t ≡ false → callHeader s .at ≡ 0
 unfolding refusedHead
 refused-at s h t e et g = ap (λ (x : Head). x .at) (refused-is s (rw (← e, ← et) g))
 

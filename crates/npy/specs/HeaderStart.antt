@@ -13,7 +13,7 @@ use borrow.Author.Tests.{le-leb, lt-leb}
 use Rattle.lemmas.specs.Lists.{drop-take}
 use Rattle.lemmas.specs.Cases.{and-right, lt-or-le, same-when-true}
 use Rattle.npy.specs.Text.{begins}
-use Rattle.npy.specs.Header.{magic, isAccepted, textFits, textLength, headerW, lengthWidth, headerOf}
+use Rattle.npy.specs.Header.{magic, isAccepted, textFits, textLength, headerOfWidth, lengthWidth, callHeader}
 use Rattle.npy.specs.HeaderLaws.{fits-parts, width-small, at-within}
 use Rattle.npy.specs.AcceptedHeader.{data-place}
 
@@ -51,9 +51,9 @@ fits-take n b m s h =
     (λ (l : n ≤ 1000). rw (leb-take (b + n) m s (h l)))
     (lt-or-le 1000 n)
 
-headerW-take : (w m : ℕ) (s : List ℕ) → 8 + w ≤ m → (textLength w s ≤ 1000 → 8 + w + textLength w s ≤ m) → headerW w (take m s) ≡ headerW w s
-unfolding headerW
-headerW-take w m s h g =
+header-of-width-take : (w m : ℕ) (s : List ℕ) → 8 + w ≤ m → (textLength w s ≤ 1000 → 8 + w + textLength w s ≤ m) → headerOfWidth w (take m s) ≡ headerOfWidth w s
+unfolding headerOfWidth
+header-of-width-take w m s h g =
     rw (length-start w m s h, leb-take (8 + w) m s h, fits-take (textLength w s) (8 + w) m s g)
     (same-when-true (leb (8 + w) (length s) && textFits (textLength w s) (8 + w) (length s)) _ _ _
     (λ e.
@@ -61,16 +61,16 @@ headerW-take w m s h g =
     rw (part-take (8 + w) (textLength w s) m s (g (f .1)))))
 
 start-decides : (m : ℕ) (s : List ℕ) → 8 ≤ m → 8 + lengthWidth s ≤ m → (textLength (lengthWidth s) s ≤ 1000 → 8 + lengthWidth s + textLength (lengthWidth s) s ≤ m)
-    → headerOf (take m s) ≡ headerOf s
-unfolding headerOf
-start-decides m s a b c = rw (width-take m s a, headerW-take (lengthWidth s) m s b c)
+    → callHeader (take m s) ≡ callHeader s
+unfolding callHeader
+start-decides m s a b c = rw (width-take m s a, header-of-width-take (lengthWidth s) m s b c)
 
 -- the longest header has 1,012 bytes: so many of a file, or all of it, decide its header
-pub window-decides : (m : ℕ) (s : List ℕ) → 1012 ≤ m → headerOf (take m s) ≡ headerOf s
+pub window-decides : (m : ℕ) (s : List ℕ) → 1012 ≤ m → callHeader (take m s) ≡ callHeader s
 window-decides m s h = let w = width-small s in start-decides m s (omega arith) (omega arith) (λ l. omega arith)
 
 -- whatever stands after bytes with an accepted header
-pub same-header-with-more : (s r : List ℕ) → isAccepted (headerOf s) ≡ true → headerOf (s ++ r) ≡ headerOf s
+pub same-header-with-more : (s r : List ℕ) → isAccepted (callHeader s) ≡ true → callHeader (s ++ r) ≡ callHeader s
 same-header-with-more s r h =
     let p = data-place s h .0 in
     let l = at-within s in
@@ -78,4 +78,4 @@ same-header-with-more s r h =
     let w : lengthWidth (s ++ r) ≡ lengthWidth s = sym (width-take (length s) (s ++ r) (omega arith)) ∙ ap lengthWidth e in
     let n : textLength (lengthWidth s) (s ++ r) ≡ textLength (lengthWidth s) s =
     sym (length-start (lengthWidth s) (length s) (s ++ r) (omega arith)) ∙ ap (λ (x : List ℕ). textLength (lengthWidth s) x) e in
-    sym (start-decides (length s) (s ++ r) (omega arith) (rw w (omega arith)) (λ g. rw (w, n) (omega arith))) ∙ ap headerOf e
+    sym (start-decides (length s) (s ++ r) (omega arith) (rw w (omega arith)) (λ g. rw (w, n) (omega arith))) ∙ ap callHeader e

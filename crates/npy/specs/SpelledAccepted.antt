@@ -13,7 +13,7 @@ use borrow.Author.Tests.{le-leb, eq-eqb, ne-eqb, eqb-true}
 use Rattle.lemmas.specs.Cases.{and-left, and-right, same-when-true}
 use Rattle.npy.specs.Text.{begins, byteWithin, isKindByte, isDigit, isSpace, leadCount, endOf, decimal, f4, i2, kindOf, beforeKind, beforeRows, beforeCols, afterCols, lineFeed, kindEnd, rowsAt, rowsEnd, colsAt, colsEnd, feedAt, placesOf, frontSpelled, shapeSpelled, endSpelled, spelled}
 use Rattle.npy.specs.TextLaws.{number-size}
-use Rattle.npy.specs.Header.{lowFirst, magic, acceptedHead, textHead, textFits, textLength, headerW, lengthWidth, headerOf}
+use Rattle.npy.specs.Header.{lowFirst, magic, acceptedHead, textHead, textFits, textLength, headerOfWidth, lengthWidth, callHeader}
 use Rattle.npy.specs.HeaderStart.{begins-take}
 use Rattle.npy.specs.Spelling.{allPass, HeaderParts, spaces, headerText, headerBytes, Framed}
 
@@ -164,8 +164,8 @@ module _ (w : ℕ) (l t rest : List ℕ) (f : Framed w l t) where
       simp (le-leb _ _ (f .short .0), le-leb _ _ (f .short .1), le-leb _ _ a, eq-eqb _ _ (f .sixteens))
 
   -- a header so framed is its text's, and the data begin after it, whatever they are
-  pub framed-read : headerOf S ≡ textHead t (8 + w + length t)
-  unfolding headerOf headerW
+  pub framed-read : callHeader S ≡ textHead t (8 + w + length t)
+  unfolding callHeader headerOfWidth
   framed-read =
       let a : 8 + w ≤ length S = omega (arith, long) in
       simp (version-width w (l ++ (t ++ rest)) (f .width), ne-eqb w 0 some-width, length-is, le-leb _ _ a, fits-there, at-text, take-append-seam)
@@ -173,5 +173,5 @@ module _ (w : ℕ) (l t rest : List ℕ) (f : Framed w l t) where
 -- ---- so a header as document 01 spells it is accepted, for either width of the length, and says what its parts say
 
 pub spelled-accepted : (w : ℕ) (l x r c : List ℕ) (n : ℕ) (rest : List ℕ) → HeaderParts x r c → Framed w l (headerText x r c n)
-    → headerOf (headerBytes w l (headerText x r c n) rest) ≡ acceptedHead (kindOf x (length x)) (decimal 0 r) (decimal 0 c) (8 + w + length (headerText x r c n))
+    → callHeader (headerBytes w l (headerText x r c n) rest) ≡ acceptedHead (kindOf x (length x)) (decimal 0 r) (decimal 0 c) (8 + w + length (headerText x r c n))
 spelled-accepted w l x r c n rest p f = framed-read w l (headerText x r c n) rest f ∙ header-text-read x r c n p _

@@ -34,7 +34,7 @@ headerText x r c n = beforeKind ++ (x ++ (beforeRows ++ (r ++ (beforeCols ++ (c 
 abbrev pub headerBytes : ℕ → List ℕ → List ℕ → List ℕ → List ℕ
 headerBytes w l t rest = magic ++ (w / 2 ∷ 0 ∷ (l ++ (t ++ rest)))
 
--- the length l is low byte first
+-- t is framed by its length l, which has w bytes, low byte first: 1 to 1,000, and the data begin at a multiple of 16
 pub record Framed (w : ℕ) (l t : List ℕ) : Type 0 where
   pub width : (w ≡ 2) ⊎ (w ≡ 4)
   pub bytes : length l ≡ w

@@ -15,7 +15,7 @@ begins s [] = true
 begins [] (w ∷ ws) = false
 begins (x ∷ xs) (w ∷ ws) = cond (eqb x w) (begins xs ws) false
 
--- a byte from lo to hi, other than one
+-- a byte from lo to hi, other than `but`
 unfoldable pub byteWithin : ℕ → ℕ → ℕ → ℕ → Bool
 byteWithin lo hi but x = leb lo x && (leb x hi && not (eqb x but))
 

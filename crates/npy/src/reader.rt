@@ -4,7 +4,7 @@ ghost use Prim.Native.Nat.{_+_, _-_, _≤_, _<_, _^_};
 ghost use mathlib.Core.Bool.{true, false, _&&_};
 ghost use lib.ListN.{length, take, drop, getD};
 ghost use Rattle.npy.specs.Text.{begins, byteWithin, endOf, decimal, isNumber, kindOf, placesOf, kindFits, frontSpelled, shapeSpelled, endSpelled, spelled};
-ghost use Rattle.npy.specs.Header.{lowFirst, cellWidth, refusedHead, textHead, textFits, headerW, lengthWidth, headerOf, dataOf, placeIn};
+ghost use Rattle.npy.specs.Header.{lowFirst, cellWidth, refusedHead, textHead, textFits, headerOfWidth, lengthWidth, callHeader, dataOf, placeIn};
 use refusal::Refusal;
 
 // The element kinds that some array is accepted with; every other one is `Other`, which none is.
@@ -317,7 +317,7 @@ fn text_fits(n: usize, b: usize, len: usize) -> bool
 // The header whose text's length has w bytes.
 fn header_w(s: &[u8], w: usize) -> Head
     requires { ⌜ w ≤ 4 ⌝ }
-    ensures { λ r. ⌜ r ≡ headerW w (now (s .entry)) ⌝ }
+    ensures { λ r. ⌜ r ≡ headerOfWidth w (now (s .entry)) ⌝ }
 {
     let b = 8 + w;
     if s.len() < b {
@@ -356,7 +356,7 @@ fn length_width(s: &[u8]) -> usize
 
 // What the header at the start of the bytes says, or 11 or 12.
 pub fn header(bytes: &[u8]) -> Head
-    ensures { λ r. ⌜ r ≡ headerOf (now (bytes .entry)) ⌝ }
+    ensures { λ r. ⌜ r ≡ callHeader (now (bytes .entry)) ⌝ }
 {
     let w = length_width(bytes);
     if w == 0 {
@@ -368,7 +368,7 @@ pub fn header(bytes: &[u8]) -> Head
 // The data: everything after the header, as a part of the caller's own bytes: it lies in them from the header's end on.
 // Refused, it is their empty start.
 pub fn data(bytes: &[u8]) -> &[u8]
-    ensures { λ r. ⌜ (now r ≡ dataOf (now (bytes .entry))) × (r .ptr ≡ placeIn (bytes .entry .ptr) (headerOf (now (bytes .entry)) .at)) ⌝ }
+    ensures { λ r. ⌜ (now r ≡ dataOf (now (bytes .entry))) × (r .ptr ≡ placeIn (bytes .entry .ptr) (callHeader (now (bytes .entry)) .at)) ⌝ }
 {
     let h = header(bytes);
     let refusal = h.refusal;

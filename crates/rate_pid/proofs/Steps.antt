@@ -14,7 +14,7 @@ use Rattle.filters.specs.declared.slew_rate.SlewRated.{SlewRated}
 use Rattle.filters.specs.Lowpass.{stepLowpass}
 use Rattle.filters.specs.Lowpass2.{stepLowpass2}
 use Rattle.filters.specs.SlewRate.{badLimit, callNewSlewRate, callUpdateSlewRate}
-use Rattle.filters.specs.SlewRateLaws.{new-accepted, step-accepted}
+use Rattle.filters.specs.SlewRateLaws.{new-slew-accepted, update-slew-accepted}
 use Rattle.rate_pid.specs.declared.PidTerms.{PidTerms}
 use Rattle.rate_pid.specs.declared.RatePid.{RatePid}
 use Rattle.rate_pid.specs.declared.Integrated.{Integrated}
@@ -35,7 +35,7 @@ module _ (d : Slew) (s : SlewRate) (x : Float) (good : badSlew d ≡ false) (on 
 
   pub slew-stepped : (next : SlewRated) → next ≡ callUpdateSlewRate s x → record { y = next .y; slew = On (next .filter) } ≡ stepSlew d x
   unfolding stepSlew
-  slew-stepped next e = simp (on, e, step-accepted s x limit-good)
+  slew-stepped next e = simp (on, e, update-slew-accepted s x limit-good)
 
 -- ---- the parts of an update
 
@@ -135,4 +135,4 @@ module _ (s : RatePid) where
   pub limited : (limit : Float) (made : SlewRateChanged) (pid : RatePid) → badLimit limit ≡ false → made ≡ callNewSlewRate limit (s .dt) → pid ≡ withSlew s (On (made .filter))
       → guarded s (changedRatePid Refusal.None pid) ≡ callSlewRatePid s limit
   unfolding callSlewRatePid slewRatePid
-  limited limit made pid g e1 e2 = simp (g, e2, e1, new-accepted limit (s .dt) g)
+  limited limit made pid g e1 e2 = simp (g, e2, e1, new-slew-accepted limit (s .dt) g)

@@ -141,38 +141,38 @@ unfolding badSlew setDtSlew setDtSlewRate
 slew-dt-limit Off dt = refl
 slew-dt-limit (On s) dt = refl
 
-pub zero-limit : badRatePid zeroRatePid ≡ false
+pub zero-not-bad : badRatePid zeroRatePid ≡ false
 unfolding badRatePid badSlew zeroRatePid
-zero-limit = refl
+zero-not-bad = refl
 
-pub new-limit : (kp ki kd tau dt : Float) → badRatePid (newRatePid kp ki kd tau dt) ≡ false
+pub new-not-bad : (kp ki kd tau dt : Float) → badRatePid (newRatePid kp ki kd tau dt) ≡ false
 unfolding badRatePid badSlew newRatePid
-new-limit kp ki kd tau dt = refl
+new-not-bad kp ki kd tau dt = refl
 
 module _ (s : RatePid) where
-  pub step-limit : (r m p : Float) → badRatePid (stepRatePid s r m p) ≡ badRatePid s
+  pub bad-after-step : (r m p : Float) → badRatePid (stepRatePid s r m p) ≡ badRatePid s
   unfolding badRatePid stepRatePid
-  step-limit r m p = slew-step-limit (s .«d_slew») r
+  bad-after-step r m p = slew-step-limit (s .«d_slew») r
 
-  pub limit-limit : (limit : Float) → badRatePid (slewRatePid s limit) ≡ badLimit limit
+  pub bad-after-slew : (limit : Float) → badRatePid (slewRatePid s limit) ≡ badLimit limit
   unfolding badRatePid badSlew slewRatePid withSlew
-  limit-limit limit = refl
+  bad-after-slew limit = refl
 
-  pub ts-limit : (ts : Float) → badRatePid (setTsRatePid s ts) ≡ badRatePid s
+  pub bad-after-set-ts : (ts : Float) → badRatePid (setTsRatePid s ts) ≡ badRatePid s
   unfolding badRatePid setTsRatePid
-  ts-limit ts = slew-dt-limit (s .«d_slew») ts
+  bad-after-set-ts ts = slew-dt-limit (s .«d_slew») ts
 
-  pub gains-limit : (kp ki kd : Float) → badRatePid (setGainsRatePid s kp ki kd) ≡ badRatePid s
+  pub bad-after-set-gains : (kp ki kd : Float) → badRatePid (setGainsRatePid s kp ki kd) ≡ badRatePid s
   unfolding badRatePid setGainsRatePid
-  gains-limit kp ki kd = refl
+  bad-after-set-gains kp ki kd = refl
 
-  pub enable-limit : (on : Bool) → badRatePid (enableIntegralRatePid s on) ≡ badRatePid s
+  pub bad-after-enable : (on : Bool) → badRatePid (enableIntegralRatePid s on) ≡ badRatePid s
   unfolding badRatePid enableIntegralRatePid
-  enable-limit on = refl
+  bad-after-enable on = refl
 
-  pub reset-limit : badRatePid (resetIntegralRatePid s) ≡ badRatePid s
+  pub bad-after-reset : badRatePid (resetIntegralRatePid s) ≡ badRatePid s
   unfolding badRatePid resetIntegralRatePid
-  reset-limit = refl
+  bad-after-reset = refl
 
 -- ---- strictly between −1 and 1, as NaN is not
 

@@ -1,6 +1,7 @@
 // rate_pid.rs: the rate controller of the innermost loop. A state is given by value and handed back; `update_in_place`
 // changes one where it lies. Every call, on a state built by hand too, refuses a stored slew limit that has a negative
-// sign or is NaN, and leaves the state as it was.
+// sign or is NaN, and leaves the state as it was; but for `advance`, which takes the limiter off, and the tests `bad` and
+// `unlimited`.
 ghost use mathlib.Core.Path.{_≡_};
 ghost use mathlib.Core.Bool.{false, cond, _&&_};
 ghost use lib.Ieee.{lt};

@@ -1,6 +1,6 @@
--- The number that document 01's table gives each refusal; 0 is no refusal.
+-- The number that document 01's table gives each refusal; 0 is no refusal. And which of two comes first.
 use Prim.Native.Nat.{ℕ}
-use mathlib.Core.Bool.{Bool}
+use mathlib.Core.Bool.{Bool, cond}
 use lib.Dec.{eqb}
 use Rattle.refusal.specs.declared.Refusal.{Refusal}
 use Rattle.refusal.specs.declared.Refusal.the-variants.{None, Range, Tau, Slew, Alpha, Points, Steps, Motor, Lane, Closed, Open, Magic, Header, Kind, Shape, Cut, Rest, RowSum, Window}
@@ -29,3 +29,7 @@ numberOf Window = 18
 -- nothing is refused
 unfoldable pub passes : Refusal → Bool
 passes why = eqb (numberOf why) 0
+
+-- the first of two refusals
+abbrev pub firstRefusal : Refusal → Refusal → Refusal
+firstRefusal a b = cond (passes a) b a

@@ -1,9 +1,11 @@
--- The numbers have at most two digits. Assumes nothing.
+-- The numbers have at most two digits, and a refusal is not none. Assumes nothing.
+use mathlib.Core.Path.{_≡_, sym, ap, _∙_}
+use mathlib.Core.Bool.{false, true≢false}
 use Prim.Native.Nat.{_<_}
 use native.Mathlib.Omega.{arith}
 use Rattle.refusal.specs.declared.Refusal.{Refusal}
 use Rattle.refusal.specs.declared.Refusal.the-variants.{None, Range, Tau, Slew, Alpha, Points, Steps, Motor, Lane, Closed, Open, Magic, Header, Kind, Shape, Cut, Rest, RowSum, Window}
-use Rattle.refusal.specs.Refusal.{numberOf}
+use Rattle.refusal.specs.Refusal.{numberOf, passes}
 
 pub number-small : (why : Refusal) → numberOf why < 100
 number-small None = omega arith
@@ -25,3 +27,7 @@ number-small Cut = omega arith
 number-small Rest = omega arith
 number-small RowSum = omega arith
 number-small Window = omega arith
+
+pub refused-not-none : (why : Refusal) → passes why ≡ false → why ≡ None → ⊥
+unfolding passes
+refused-not-none why h e = true≢false (sym (ap passes e) ∙ h)

@@ -42,7 +42,7 @@ fn read_more(input: &mut [u8], to: usize) -> More
 
 // Reads until the start of the file is there or the input ends.
 fn gather(input: &mut [u8]) -> More {
-    let enough = trace::enough();
+    let enough = trace::start_bytes();
     let mut to = 0;
     while to < enough {
         let m = read_more(input, to);

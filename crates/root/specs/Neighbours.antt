@@ -64,11 +64,11 @@ module _ (c : ℕ) (C : 0 < c) where
       ]
 
 -- ---- a number without a sign has a pattern below the infinity's
-abbrev pub plain : Float → Bool
-plain nan = false
-plain (inf s) = false
-plain (fin true m e) = false
-plain (fin false m e) = true
+abbrev pub unsignedFinite : Float → Bool
+unsignedFinite nan = false
+unsignedFinite (inf s) = false
+unsignedFinite (fin true m e) = false
+unsignedFinite (fin false m e) = true
 
 pub record HasPattern (z : Float) : Type 0 where
   pub bits : ℕ
@@ -83,7 +83,7 @@ zero-pattern = refl
 with-bits : (z : Float) (b : ℕ) → b < 255 * 2 ^ 23 → ofBits binary32 b ≡ z → HasPattern z
 with-bits z b h e = record { bits = b; finite = h; value = subst (λ (x : Float). HasValue x false (scaled b) (2 ^ 149)) e (pattern-value b h); is = e }
 
-pub pattern-of : (z : Float) → T (plain z) → T (fits binary32 z) → HasPattern z
+pub pattern-of : (z : Float) → T (unsignedFinite z) → T (fits binary32 z) → HasPattern z
 pattern-of nan t fit = absurd t
 pattern-of (inf s) t fit = absurd t
 pattern-of (fin true m e) t fit = absurd t
@@ -91,7 +91,7 @@ pattern-of (fin false zero e) t fit = with-bits (fin false 0 e) 0 (omega arith) 
 pattern-of (fin false (suc m) e) t fit = let x = fin false (suc m) e in with-bits x (toBits binary32 x) (finite-bits m e fit) (ofBits-toBits binary32 x fit)
 
 -- what is above a number without a sign and below a number is such a number
-above-plain : (m : ℕ) (e : ℤ) (z : Float) (n : ℕ) (d : ℤ) → lt (fin false m e) z ≡ true → lt z (fin false n d) ≡ true → T (plain z)
+above-plain : (m : ℕ) (e : ℤ) (z : Float) (n : ℕ) (d : ℤ) → lt (fin false m e) z ≡ true → lt z (fin false n d) ≡ true → T (unsignedFinite z)
 unfolding lt
 above-plain m e nan n d h k = true≢false (sym h)
 above-plain m e (inf true) n d h k = true≢false (sym h)
@@ -99,10 +99,10 @@ above-plain m e (inf false) n d h k = true≢false (sym k)
 above-plain m e (fin true q f) n d h k = true≢false (sym h)
 above-plain m e (fin false q f) n d h k = tt
 
-pub between-plain : (x z y : Float) → T (plain x) → T (plain y) → lt x z ≡ true → lt z y ≡ true → T (plain z)
+pub between-plain : (x z y : Float) → T (unsignedFinite x) → T (unsignedFinite y) → lt x z ≡ true → lt z y ≡ true → T (unsignedFinite z)
 between-plain (fin false m e) z (fin false n d) p q h k = above-plain m e z n d h k
 
-pub value-plain : (x : Float) (a c : ℕ) → HasValue x false a c → T (plain x)
+pub value-plain : (x : Float) (a c : ℕ) → HasValue x false a c → T (unsignedFinite x)
 value-plain (fin true m e) a c p = true≢false (p .0)
 value-plain (fin false m e) a c p = tt
 

@@ -46,7 +46,7 @@ root-below (fin false zero e) h = absurd (omega (arith, ltb-true (0 * up e * 1) 
 root-below (fin false (suc m) e) h = absurd (omega (arith, ltb-true (suc m * up e * 1) (0 * down e) h))
 
 -- of a number above zero: the rule, and that no other pattern z keeps it, so that no tie can occur (`twiceMiddle z` is z + p, `twiceMiddle (suc z)` is z + s and `fourfold b` is 4x)
-pub record Rule (x : Float) : Type 0 where
+pub record PatternRule (x : Float) : Type 0 where
   pub b : ℕ
   pub y : ℕ
   pub x-is : ofBits binary32 b ≡ x
@@ -54,9 +54,9 @@ pub record Rule (x : Float) : Type 0 where
   pub rule : IsRoot b y
   pub only : (z : ℕ) → twiceMiddle z * twiceMiddle z ≤ fourfold b → fourfold b ≤ twiceMiddle (suc z) * twiceMiddle (suc z) → z ≡ y
 
-pub root-rule : (m : ℕ) (e : ℤ) → T (fits binary32 (fin false (suc m) e)) → Rule (fin false (suc m) e)
+pub pattern-rule : (m : ℕ) (e : ℤ) → T (fits binary32 (fin false (suc m) e)) → PatternRule (fin false (suc m) e)
 unfolding root
-root-rule m e fit =
+pattern-rule m e fit =
     let x = fin false (suc m) e in
     let b = toBits binary32 x in
     let B = some-bits x fit (above-zero m e) in

@@ -1,4 +1,4 @@
-// statistics.rs: mean and variance of a signal that forgets.
+// statistics.rs: a running mean and variance that forget old samples.
 ghost use mathlib.Core.Path.{_≡_};
 ghost use Rattle.statistics.specs.Statistics.{badAlpha, zeroStatistics, callNewStatistics, sampled, callAddSample, callMeanVar, callStdDev};
 use refusal::Refusal;

@@ -13,10 +13,10 @@ use Rattle.refusal.specs.declared.Refusal.{Refusal}
 use Rattle.refusal.specs.declared.Refusal.the-variants as Refusal
 use Rattle.refusal.specs.Refusal.{passes}
 use Rattle.npy.specs.declared.reader.Head.{Head}
-use Rattle.npy.specs.Header.{hasCells, cellWidth, isAccepted, headerOf}
+use Rattle.npy.specs.Header.{hasCells, cellWidth, isAccepted, callHeader}
 use Rattle.npy.specs.HeaderLaws.{at-within}
 use Rattle.trace.specs.declared.course.Begun.{Begun}
-use Rattle.trace.specs.Trace.{isF4, settingsBytes, settingsRefusal, openedBank, traceRefusal, unless, traceStart, refusedStart, startOf, rowWidth}
+use Rattle.trace.specs.Trace.{isF4, settingsBytes, settingsRefusal, openedBank, traceRefusal, unless, traceStart, refusedStart, callStart, rowWidth}
 
 -- a refusal that is given only where a test fails: it is not given, so the test holds, and no later refusal is given either
 not-given : (t : Bool) (x y : Refusal) → (t ≡ false → passes y ≡ false) → passes (cond t x y) ≡ true → (t ≡ true) × (passes x ≡ true)
@@ -60,23 +60,23 @@ trace-parts k h e =
 
 -- the first array's header, where the second begins, and its header
 abbrev pub firstHead : List ℕ → Head
-firstHead s = headerOf s
+firstHead s = callHeader s
 
 abbrev pub secondAt : List ℕ → ℕ
-secondAt s = headerOf s .at + settingsBytes (headerOf s .rows)
+secondAt s = callHeader s .at + settingsBytes (callHeader s .rows)
 
 abbrev pub secondHead : List ℕ → Head
-secondHead s = headerOf (drop (secondAt s) s)
+secondHead s = callHeader (drop (secondAt s) s)
 
 -- an accepted start
 pub record AcceptedStart (s : List ℕ) : Type 0 where
   pub settings : AcceptedSettings (firstHead s) (length s)
   pub trace : (isAccepted (secondHead s) ≡ true) × (hasCells (secondHead s .kind) ≡ true) × (secondHead s .cols ≡ firstHead s .rows * 3)
-  pub kind : startOf s .course .kind ≡ secondHead s .kind
-  pub lanes : startOf s .course .lanes ≡ firstHead s .rows
-  pub left : startOf s .course .left ≡ secondHead s .rows
-  pub bank : startOf s .course .bank ≡ openedBank (firstHead s .rows) (drop (firstHead s .at) s)
-  pub at : startOf s .at ≡ secondAt s + secondHead s .at
+  pub kind : callStart s .course .kind ≡ secondHead s .kind
+  pub lanes : callStart s .course .lanes ≡ firstHead s .rows
+  pub left : callStart s .course .left ≡ secondHead s .rows
+  pub bank : callStart s .course .bank ≡ openedBank (firstHead s .rows) (drop (firstHead s .at) s)
+  pub at : callStart s .at ≡ secondAt s + secondHead s .at
 
 -- a start that is accepted is what comes after the test, which holds
 unless-passed : (why : Refusal) (next : Begun) → passes (unless why next .refusal) ≡ true → (passes why ≡ true) × (unless why next ≡ next)
@@ -87,15 +87,15 @@ unless-passed why next = go (passes why) refl
     go false e h = absurd (true≢false (sym h ∙ e))
     go true e h = (refl, refl)
 
-pub accepted-start : (s : List ℕ) → passes (startOf s .refusal) ≡ true → AcceptedStart s
-unfolding startOf traceStart
+pub accepted-start : (s : List ℕ) → passes (callStart s .refusal) ≡ true → AcceptedStart s
+unfolding callStart traceStart
 accepted-start s h =
     let first = unless-passed _ _ h in
-    let second = unless-passed (traceRefusal (headerOf s .rows) (secondHead s)) _ (subst (λ (b : Begun). passes (b .refusal) ≡ true) (first .1) h) in
+    let second = unless-passed (traceRefusal (callHeader s .rows) (secondHead s)) _ (subst (λ (b : Begun). passes (b .refusal) ≡ true) (first .1) h) in
     let is = first .1 ∙ second .1 in
     record {
-      settings = settings-parts (headerOf s) (length s) (first .0);
-      trace = trace-parts (headerOf s .rows) (secondHead s) (second .0);
+      settings = settings-parts (callHeader s) (length s) (first .0);
+      trace = trace-parts (callHeader s .rows) (secondHead s) (second .0);
       kind = rw is;
       lanes = rw is;
       left = rw is;
@@ -104,16 +104,16 @@ accepted-start s h =
     }
 
 -- the rows begin within the file
-pub start-within : (s : List ℕ) → AcceptedStart s → startOf s .at ≤ length s
+pub start-within : (s : List ℕ) → AcceptedStart s → callStart s .at ≤ length s
 start-within s g =
     let a : secondHead s .at ≤ length s - secondAt s = rw length-drop at (at-within (drop (secondAt s) s)) in
     omega (arith, g .at, g .settings .fits)
 
 -- a row of an accepted trace has bytes
-pub row-has-bytes : (s : List ℕ) → AcceptedStart s → 0 < rowWidth (startOf s .course)
+pub row-has-bytes : (s : List ℕ) → AcceptedStart s → 0 < rowWidth (callStart s .course)
 unfolding rowWidth
 row-has-bytes s g = rw (g .kind, g .lanes) (mul-pos (omega (arith, g .settings .some)) (ltb-true 0 (cellWidth (secondHead s .kind)) (g .trace .1)))
 
 -- the bytes of its rows, and what comes after them
 abbrev pub bytesAfterStart : List ℕ → List ℕ
-bytesAfterStart s = drop (startOf s .at) s
+bytesAfterStart s = drop (callStart s .at) s

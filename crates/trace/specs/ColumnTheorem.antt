@@ -9,11 +9,11 @@ use lib.Ieee.{nan}
 use lib.ListN.{length, getD, take, drop}
 use Rattle.refusal.specs.Refusal.{passes}
 use Rattle.npy.specs.declared.reader.Kind.the-variants.{F4}
-use Rattle.npy.specs.Header.{headerOf}
+use Rattle.npy.specs.Header.{callHeader}
 use Rattle.npy.specs.Lines.{wordOf}
 use Rattle.bank.specs.declared.lane.Op.{Op}
 use Rattle.bank.specs.RunLaws.{Lies}
-use Rattle.trace.specs.Trace.{startOf, replayOf}
+use Rattle.trace.specs.Trace.{callStart, replayOf}
 use Rattle.trace.specs.Taken.{CanTake}
 use Rattle.trace.specs.AcceptedStart.{accepted-start, bytesAfterStart}
 use Rattle.trace.specs.WholeFile.{accepted-lines}
@@ -26,15 +26,15 @@ unfoldable pub printedWord : List ℕ → ℕ → ℕ → List ℕ
 printedWord s L r = take 8 (drop (r * (9 * lanesOf s) + 9 * L) (replayOf s))
 
 -- they are those of the r-th value of one controller that is made with the lane's settings and updated with the lane's cells
-pub column-theorem : (s : List ℕ) (m L r : ℕ) → passes (startOf s .refusal) ≡ true → CanTake m (startOf s .course) (bytesAfterStart s) → L < lanesOf s → r < m
+pub column-theorem : (s : List ℕ) (m L r : ℕ) → passes (callStart s .refusal) ≡ true → CanTake m (callStart s .course) (bytesAfterStart s) → L < lanesOf s → r < m
     → printedWord s L r ≡ wordOf (getD (singleValues (controllerAt (settingsOf s) L) (laneUpdates (cellKindOf s) (lanesOf s) L m (bytesAfterStart s))) r nan)
 unfolding printedWord
 column-theorem s m L r e w l h =
     let g = accepted-start s e in
     let few : lanesOf s ≤ 8 = rw (g .lanes) (g .settings .few) in
-    let own : L < headerOf s .rows = rw (g .lanes) at l in
-    let lies : Lies L (startOf s .course .bank) (controllerAt (settingsOf s) L) = rw (g .bank) (opened-lies (headerOf s .rows) (settingsOf s) L (g .settings .few) own) in
-    rw (accepted-lines s m e w) (rows-word r m (startOf s .course) (bytesAfterStart s) L (controllerAt (settingsOf s) L) _ h (omega arith) l lies)
+    let own : L < callHeader s .rows = rw (g .lanes) at l in
+    let lies : Lies L (callStart s .course .bank) (controllerAt (settingsOf s) L) = rw (g .bank) (opened-lies (callHeader s .rows) (settingsOf s) L (g .settings .few) own) in
+    rw (accepted-lines s m e w) (rows-word r m (callStart s .course) (bytesAfterStart s) L (controllerAt (settingsOf s) L) _ h (omega arith) l lies)
 
 -- two files have the same lane L: as many lanes, cells of one kind, equal settings of lane L, and in the first n rows equal cells of it
 pub record SameLane (s t : List ℕ) (L n : ℕ) : Type 0 where
@@ -53,8 +53,8 @@ unfolding laneUpdateAt
 same-update s t L n r e h = rw (e .cells r 0 h (omega arith), e .cells r 1 h (omega arith), e .cells r 2 h (omega arith))
 
 -- then they print equal digits for it in each of these rows that can be taken of both, however the files end
-pub same-column : (s t : List ℕ) (L n m k r : ℕ) → passes (startOf s .refusal) ≡ true → passes (startOf t .refusal) ≡ true
-    → CanTake m (startOf s .course) (bytesAfterStart s) → CanTake k (startOf t .course) (bytesAfterStart t) → L < lanesOf s → SameLane s t L n → r < n → r < m → r < k
+pub same-column : (s t : List ℕ) (L n m k r : ℕ) → passes (callStart s .refusal) ≡ true → passes (callStart t .refusal) ≡ true
+    → CanTake m (callStart s .course) (bytesAfterStart s) → CanTake k (callStart t .course) (bytesAfterStart t) → L < lanesOf s → SameLane s t L n → r < n → r < m → r < k
     → printedWord s L r ≡ printedWord t L r
 same-column s t L n m k r es et ws wt l e hn hm hk =
     column-theorem s m L r es ws l hm
@@ -83,7 +83,7 @@ same-column s t L n m k r es et ws wt l e hn hm hk =
         ∙ sym (updates-at (cellKindOf t) (lanesOf t) L k (bytesAfterStart t) q d (omega arith))
 
 -- document 01: two accepted files with equal shapes, kind, lane L settings and lane L cells give equal L columns
-pub equal-columns : (s t : List ℕ) (L : ℕ) → AcceptedFile s → AcceptedFile t → startOf s .course .left ≡ startOf t .course .left → L < lanesOf s
-    → SameLane s t L (startOf s .course .left) → (r : ℕ) → r < startOf s .course .left → printedWord s L r ≡ printedWord t L r
+pub equal-columns : (s t : List ℕ) (L : ℕ) → AcceptedFile s → AcceptedFile t → callStart s .course .left ≡ callStart t .course .left → L < lanesOf s
+    → SameLane s t L (callStart s .course .left) → (r : ℕ) → r < callStart s .course .left → printedWord s L r ≡ printedWord t L r
 equal-columns s t L a b same l e r h =
-    same-column s t L (startOf s .course .left) (startOf s .course .left) (startOf t .course .left) r (a .start-passes) (b .start-passes) (a .rows) (b .rows) l e h h (omega arith)
+    same-column s t L (callStart s .course .left) (callStart s .course .left) (callStart t .course .left) r (a .start-passes) (b .start-passes) (a .rows) (b .rows) l e h h (omega arith)

@@ -22,11 +22,11 @@ use Rattle.bank.specs.BankLaws.{updateRefusal}
 use Rattle.bank.specs.BankRuns.{after}
 use Rattle.bank.specs.Single.{one}
 use Rattle.bank.specs.RunLaws.{Lies, after-eight}
-use Rattle.rows.specs.Rows.{firstRefusal}
+use Rattle.rows.specs.Rows.{runRefusal}
 use Rattle.rows.specs.LaneByLaneLaws.{own-turn}
 use Rattle.rows.specs.ReadyLanes.{first-ready, first-kept}
 use Rattle.trace.specs.declared.course.Course.{Course}
-use Rattle.trace.specs.Trace.{startOf, replayRefusal, rowWidth, rowCalls, afterRow, afterRows, formRefusal, rowRefusal, courseRefusal}
+use Rattle.trace.specs.Trace.{callStart, replayRefusal, rowWidth, callsOfRow, afterRow, afterRows, formRefusal, rowRefusal, courseRefusal}
 use Rattle.trace.specs.Taken.{CanTake, row-count, after-row-width, rows-cut, spent-rest, spent-row, after-left, after-width}
 use Rattle.trace.specs.RowRefusalLaws.{form-is, row-there, row-short}
 use Rattle.trace.specs.MeasureLaws.{rest-refusal-of, rest-some, rest-none}
@@ -43,16 +43,16 @@ pub record OpenCourse (c : Course) : Type 0 where
   pub lanes : (i : ℕ) → i < c .lanes → passes (updateRefusal (c .bank) i) ≡ true
 
 module _ (c : Course) (s : List ℕ) (o : OpenCourse c) where
-  row-all : take (c .lanes) (rowCalls c s) ≡ rowCalls c s
-  row-all = take-all (c .lanes) (rowCalls c s) (rw (row-count c s) (omega arith))
+  row-all : take (c .lanes) (callsOfRow c s) ≡ callsOfRow c s
+  row-all = take-all (c .lanes) (callsOfRow c s) (rw (row-count c s) (omega arith))
 
   -- so none of a row's updates is refused
-  updates-pass : firstRefusal (c .bank) (rowCalls c s) ≡ Refusal.None
-  unfolding rowCalls
+  updates-pass : runRefusal (c .bank) (callsOfRow c s) ≡ Refusal.None
+  unfolding callsOfRow
   updates-pass =
       let cells = cellsOf (c .kind) (c .lanes * 3) s in
       let long = cells-length (c .kind) (c .lanes * 3) s in
-      ap (firstRefusal (c .bank)) (sym row-all)
+      ap (runRefusal (c .bank)) (sym row-all)
       ∙ first-ready (c .lanes) (c .lanes) 0 cells (c .bank) (o .eight) (omega arith) (λ i h. rw (own-turn (c .lanes) i h) (o .lanes i h))
 
   -- and a row that is there whole is not
@@ -61,12 +61,12 @@ module _ (c : Course) (s : List ℕ) (o : OpenCourse c) where
   open-row h = ap passes (row-there c s (o .form) h .0 ∙ updates-pass)
 
   pub open-on : (n : ℕ) → OpenCourse (afterRow c n s)
-  unfolding afterRow rowCalls
+  unfolding afterRow callsOfRow
   open-on n =
       let cells = cellsOf (c .kind) (c .lanes * 3) s in
       record {
         form = o .form;
-        eight = after-eight (rowCalls c s) (c .bank) (o .eight);
+        eight = after-eight (callsOfRow c s) (c .bank) (o .eight);
         lanes = λ i h. ap passes (ap (λ (calls : _). updateRefusal (after (c .bank) calls) i) (sym row-all) ∙ first-kept (c .lanes) (c .lanes) 0 cells (c .bank) (o .eight) i) ∙ o .lanes i h;
       }
 
@@ -94,35 +94,35 @@ lies-open : (b : Bank) (i : ℕ) (s : RatePid) → i ≤ 7 → Lies i b (one s) 
 unfolding updateRefusal passes
 lies-open b i s h l = rw (le-ltb 7 i h, l .here, l .good)
 
-module _ (s : List ℕ) (e : passes (startOf s .refusal) ≡ true) where
-  pub start-open : OpenCourse (startOf s .course)
+module _ (s : List ℕ) (e : passes (callStart s .refusal) ≡ true) where
+  pub start-open : OpenCourse (callStart s .course)
   unfolding controllerAt
   start-open =
       let g = accepted-start s e in
       let few = g .settings .few in
-      let lies : (i : ℕ) → i < firstHead s .rows → Lies i (startOf s .course .bank) (controllerAt (settingsOf s) i) = λ i h. rw (g .bank) (opened-lies (firstHead s .rows) (settingsOf s) i few h) in
+      let lies : (i : ℕ) → i < firstHead s .rows → Lies i (callStart s .course .bank) (controllerAt (settingsOf s) i) = λ i h. rw (g .bank) (opened-lies (firstHead s .rows) (settingsOf s) i few h) in
       record {
         form = rw (g .kind, g .lanes) (form-is (secondHead s .kind) (firstHead s .rows) (g .settings .some) few (g .trace .1));
         eight = lies 0 (omega (arith, g .settings .some)) .eight;
-        lanes = λ i h. lies-open (startOf s .course .bank) i _ (omega (arith, g .lanes)) (lies i (omega (arith, g .lanes)));
+        lanes = λ i h. lies-open (callStart s .course .bank) i _ (omega (arith, g .lanes)) (lies i (omega (arith, g .lanes)));
       }
 
   -- rows that its bytes have, and no more than its header says, can be taken
-  pub file-take : (m : ℕ) → m ≤ startOf s .course .left → m * rowWidth (startOf s .course) ≤ length (bytesAfterStart s) → CanTake m (startOf s .course) (bytesAfterStart s)
-  file-take m = open-can-take m (startOf s .course) (bytesAfterStart s) start-open
+  pub file-take : (m : ℕ) → m ≤ callStart s .course .left → m * rowWidth (callStart s .course) ≤ length (bytesAfterStart s) → CanTake m (callStart s .course) (bytesAfterStart s)
+  file-take m = open-can-take m (callStart s .course) (bytesAfterStart s) start-open
 
   -- what it is refused with, after these
-  refused-after : (m : ℕ) → m ≤ startOf s .course .left → m * rowWidth (startOf s .course) ≤ length (bytesAfterStart s)
-      → replayRefusal s ≡ courseRefusal (afterRows m (startOf s .course) (bytesAfterStart s)) (drop (m * rowWidth (startOf s .course)) (bytesAfterStart s))
-  refused-after m l h = accepted-refusal s e ∙ rows-cut m (startOf s .course) (bytesAfterStart s) (file-take m l h) .1
+  refused-after : (m : ℕ) → m ≤ callStart s .course .left → m * rowWidth (callStart s .course) ≤ length (bytesAfterStart s)
+      → replayRefusal s ≡ courseRefusal (afterRows m (callStart s .course) (bytesAfterStart s)) (drop (m * rowWidth (callStart s .course)) (bytesAfterStart s))
+  refused-after m l h = accepted-refusal s e ∙ rows-cut m (callStart s .course) (bytesAfterStart s) (file-take m l h) .1
 
   -- 15 where a row is missing
-  pub file-cut : length (bytesAfterStart s) < startOf s .course .left * rowWidth (startOf s .course) → replayRefusal s ≡ Refusal.Cut
+  pub file-cut : length (bytesAfterStart s) < callStart s .course .left * rowWidth (callStart s .course) → replayRefusal s ≡ Refusal.Cut
   unfolding passes
   file-cut h =
-      let c = startOf s .course in
-      let w : ℕ = rowWidth (startOf s .course) in
-      let m : ℕ = length (bytesAfterStart s) / rowWidth (startOf s .course) in
+      let c = callStart s .course in
+      let w : ℕ = rowWidth (callStart s .course) in
+      let m : ℕ = length (bytesAfterStart s) / rowWidth (callStart s .course) in
       let fits : m * w ≤ length (bytesAfterStart s) = div-mul-le-self (length (bytesAfterStart s)) w in
       let less : m < c .left = less-rows m w (c .left) (length (bytesAfterStart s)) fits h in
       let there : Course = afterRows m c (bytesAfterStart s) in
@@ -137,15 +137,15 @@ module _ (s : List ℕ) (e : passes (startOf s .refusal) ≡ true) where
       less-rows m w left len f h = ⊎-elim (λ (g : m < left). g) (λ (g : left ≤ m). let z : left * w ≤ m * w = mul-le-mul-right w g in absurd (omega arith)) (lt-or-le m left)
 
   -- 16 where bytes follow the last row
-  pub file-rest : startOf s .course .left * rowWidth (startOf s .course) < length (bytesAfterStart s) → replayRefusal s ≡ Refusal.Rest
+  pub file-rest : callStart s .course .left * rowWidth (callStart s .course) < length (bytesAfterStart s) → replayRefusal s ≡ Refusal.Rest
   file-rest h =
-      let c = startOf s .course in
+      let c = callStart s .course in
       refused-after (c .left) (omega arith) (omega arith) ∙ spent-rest (afterRows (c .left) c (bytesAfterStart s)) (drop (c .left * rowWidth c) (bytesAfterStart s)) (after-left (c .left) c (bytesAfterStart s) ∙ omega arith)
       ∙ rest-refusal-of (drop (c .left * rowWidth c) (bytesAfterStart s)) ∙ rest-some (rw length-drop (omega arith))
 
   -- and nothing where neither is so
-  pub file-none : length (bytesAfterStart s) ≡ startOf s .course .left * rowWidth (startOf s .course) → replayRefusal s ≡ Refusal.None
+  pub file-none : length (bytesAfterStart s) ≡ callStart s .course .left * rowWidth (callStart s .course) → replayRefusal s ≡ Refusal.None
   file-none h =
-      let c = startOf s .course in
+      let c = callStart s .course in
       refused-after (c .left) (omega arith) (omega arith) ∙ spent-rest (afterRows (c .left) c (bytesAfterStart s)) (drop (c .left * rowWidth c) (bytesAfterStart s)) (after-left (c .left) c (bytesAfterStart s) ∙ omega arith)
       ∙ rest-refusal-of (drop (c .left * rowWidth c) (bytesAfterStart s)) ∙ rest-none (rw length-drop (omega arith))

@@ -12,7 +12,7 @@ use Rattle.lanes.specs.Lanes.{ofLane}
 use Rattle.rate_pid.specs.RatePid.{newRatePid}
 use Rattle.npy.specs.declared.reader.Kind.{Kind}
 use Rattle.npy.specs.declared.reader.Kind.the-variants.{F4}
-use Rattle.npy.specs.Header.{cellWidth, headerOf}
+use Rattle.npy.specs.Header.{cellWidth, callHeader}
 use Rattle.npy.specs.Cell.{cellOf}
 use Rattle.bank.specs.declared.lane.Op.{Op}
 use Rattle.bank.specs.declared.lane.Op.the-variants.{Update}
@@ -21,7 +21,7 @@ use Rattle.bank.specs.Single.{Single, none, one, openedSingle, callSingle, sing
 use Rattle.bank.specs.BankRuns.{after}
 use Rattle.bank.specs.RunLaws.{Lies, lies-after, fresh-lies}
 use Rattle.trace.specs.LanesInTurn.{inTurn, readEach, each-length, each-at, lane-of-each}
-use Rattle.trace.specs.Trace.{openOf, openedBank, startOf}
+use Rattle.trace.specs.Trace.{openOf, openedBank, callStart}
 use Rattle.trace.specs.Taken.{updateOf}
 use Rattle.trace.specs.LaneText.{laneUpdate, laneUpdates}
 
@@ -81,10 +81,10 @@ opened-lies k s L h l =
 
 -- the data of a file's first array; the lanes and the kind of its second
 abbrev pub settingsOf : List ℕ → List ℕ
-settingsOf s = drop (headerOf s .at) s
+settingsOf s = drop (callHeader s .at) s
 
 abbrev pub lanesOf : List ℕ → ℕ
-lanesOf s = startOf s .course .lanes
+lanesOf s = callStart s .course .lanes
 
 abbrev pub cellKindOf : List ℕ → Kind
-cellKindOf s = startOf s .course .kind
+cellKindOf s = callStart s .course .kind

@@ -28,7 +28,7 @@ use Rattle.rows.specs.Rows.{nextLane, updateCalls, valuesOf}
 use Rattle.rows.specs.RowsLaws.{values-length}
 use Rattle.trace.specs.declared.course.Course.{Course}
 use Rattle.trace.specs.LanesInTurn.{inTurn, readEach, lane-of, lane-of-each}
-use Rattle.trace.specs.Trace.{rowWidth, rowCalls, rowLine, afterRow, rowLines}
+use Rattle.trace.specs.Trace.{rowWidth, callsOfRow, rowLine, afterRow, rowLines}
 use Rattle.trace.specs.Taken.{updateOf, calls-more, row-length, row-count}
 
 -- ---- the calls of a file
@@ -101,34 +101,34 @@ single-values-same (suc r) c (op ∷ ops) (o ∷ other) d h g e =
 unfoldable pub laneUpdate : Kind → ℕ → List ℕ → Op
 laneUpdate kind L s = updateOf kind (drop (L * (3 * cellWidth kind)) s)
 
-pub row-turn : (c : Course) (s : List ℕ) → rowCalls c s ≡ inTurn 0 (readEach (updateOf (c .kind)) (3 * cellWidth (c .kind)) (c .lanes) s)
-unfolding rowCalls
+pub row-turn : (c : Course) (s : List ℕ) → callsOfRow c s ≡ inTurn 0 (readEach (updateOf (c .kind)) (3 * cellWidth (c .kind)) (c .lanes) s)
+unfolding callsOfRow
 row-turn c s = updates-turn (c .kind) (c .lanes) (c .lanes) 0 s (zero-add (c .lanes))
 
-pub row-of-lane : (c : Course) (s : List ℕ) (L : ℕ) → L < c .lanes → ofLane L (rowCalls c s) ≡ laneUpdate (c .kind) L s ∷ []
+pub row-of-lane : (c : Course) (s : List ℕ) (L : ℕ) → L < c .lanes → ofLane L (callsOfRow c s) ≡ laneUpdate (c .kind) L s ∷ []
 unfolding laneUpdate
 row-of-lane c s L h = ap (ofLane L) (row-turn c s) ∙ lane-of-each (updateOf (c .kind)) (3 * cellWidth (c .kind)) (c .lanes) s L h
 
 -- what is printed for it is its controller's answer
 pub row-value : (c : Course) (s : List ℕ) (L : ℕ) (σ : Single) → L ≤ 7 → L < c .lanes → Lies L (c .bank) σ
-    → getD (valuesOf (run (c .bank) (rowCalls c s))) L nan ≡ callSingle σ (laneUpdate (c .kind) L s) .answer .y
+    → getD (valuesOf (run (c .bank) (callsOfRow c s))) L nan ≡ callSingle σ (laneUpdate (c .kind) L s) .answer .y
 unfolding answers
 row-value c s L σ h l lies =
     let b = c .bank in
     let op = laneUpdate (c .kind) L s in
     let d : Answer = plain Refusal.None in
-    let len : length (run b (rowCalls c s)) ≡ c .lanes = answers-length bankMachine (rowCalls c s) b ∙ row-count c s in
-    let told : ofLane L (run b (rowCalls c s)) ≡ getD (things (run b (rowCalls c s))) L d ∷ [] = answered-at b (rowCalls c s) _ (row-turn c s) L d (omega arith) in
-    let heard : ofLane L (run b (rowCalls c s)) ≡ callSingle σ op .answer ∷ [] = lies-run L h (rowCalls c s) b σ lies ∙ ap (singleRun σ) (row-of-lane c s L l) in
-    let same : getD (things (run b (rowCalls c s))) L d ≡ callSingle σ op .answer = cc in
-    value-of-answer (run b (rowCalls c s)) L d (omega arith) ∙ ap (λ (a : Answer). a .y) same
+    let len : length (run b (callsOfRow c s)) ≡ c .lanes = answers-length bankMachine (callsOfRow c s) b ∙ row-count c s in
+    let told : ofLane L (run b (callsOfRow c s)) ≡ getD (things (run b (callsOfRow c s))) L d ∷ [] = answered-at b (callsOfRow c s) _ (row-turn c s) L d (omega arith) in
+    let heard : ofLane L (run b (callsOfRow c s)) ≡ callSingle σ op .answer ∷ [] = lies-run L h (callsOfRow c s) b σ lies ∙ ap (singleRun σ) (row-of-lane c s L l) in
+    let same : getD (things (run b (callsOfRow c s))) L d ≡ callSingle σ op .answer = cc in
+    value-of-answer (run b (callsOfRow c s)) L d (omega arith) ∙ ap (λ (a : Answer). a .y) same
 
 -- and after it its controller is updated
 pub row-lies : (c : Course) (s : List ℕ) (L : ℕ) (σ : Single) → L ≤ 7 → L < c .lanes → Lies L (c .bank) σ
-    → Lies L (after (c .bank) (rowCalls c s)) (callSingle σ (laneUpdate (c .kind) L s) .single)
+    → Lies L (after (c .bank) (callsOfRow c s)) (callSingle σ (laneUpdate (c .kind) L s) .single)
 unfolding left
 row-lies c s L σ h l lies =
-    subst (λ (ops : List Op). Lies L (after (c .bank) (rowCalls c s)) (singleAfter σ ops)) (row-of-lane c s L l) (lies-after L h (rowCalls c s) (c .bank) σ lies)
+    subst (λ (ops : List Op). Lies L (after (c .bank) (callsOfRow c s)) (singleAfter σ ops)) (row-of-lane c s L l) (lies-after L h (callsOfRow c s) (c .bank) σ lies)
 
 -- ---- the text
 
@@ -142,9 +142,9 @@ pub rows-word : (r n : ℕ) (c : Course) (s : List ℕ) (L : ℕ) (σ : Single) 
 unfolding rowLines rowLine afterRow rowWidth laneUpdates readEach singleValues
 rows-word r zero c s L σ rest h a l lies = absurd (omega arith)
 rows-word zero (suc n) c s L σ rest h a l lies =
-    let len : length (valuesOf (run (c .bank) (rowCalls c s))) ≡ c .lanes = values-length (c .bank) (rowCalls c s) ∙ row-count c s in
+    let len : length (valuesOf (run (c .bank) (callsOfRow c s))) ≡ c .lanes = values-length (c .bank) (callsOfRow c s) ∙ row-count c s in
     rw (zero-mul (9 * c .lanes), zero-add (9 * L), append-assoc)
-    (line-column (valuesOf (run (c .bank) (rowCalls c s))) L _ (omega arith) ∙ ap wordOf (row-value c s L σ a l lies))
+    (line-column (valuesOf (run (c .bank) (callsOfRow c s))) L _ (omega arith) ∙ ap wordOf (row-value c s L σ a l lies))
 rows-word (suc r) (suc n) c s L σ rest h a l lies =
     let e : suc r * (9 * c .lanes) + 9 * L ≡ length (rowLine c s) + (r * (9 * c .lanes) + 9 * L) = omega (arith, suc-mul r (9 * c .lanes), row-length c s) in
     rw (e, append-assoc, drop-append-add)

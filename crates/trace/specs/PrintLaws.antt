@@ -13,7 +13,7 @@ use Rattle.refusal.specs.Refusal.{passes}
 use Rattle.trace.specs.declared.course.Course.{Course}
 use Rattle.trace.specs.declared.course.Went.{Went}
 use Rattle.trace.specs.Trace.{rowWidth, rowLine, afterRow, rowLines, rowRefusal, courseLines}
-use Rattle.trace.specs.Slices.{rowsTried, wentOf}
+use Rattle.trace.specs.Slices.{rowsTried, callRows}
 use Rattle.trace.specs.Taken.{row-taken, row-cut, rows-cut, spent-lines, row-length, rows-length}
 use Rattle.trace.specs.WentLaws.{WentRowByRow}
 use Rattle.trace.specs.RowsForLaws.{some-tried}
@@ -60,7 +60,7 @@ module _ (s out₀ : List ℕ) (c₀ : Course) where
     print-done h = rw (spent-lines c (drop at s) (inl (omega arith))) at (p .text)
 
     module _ (cells values : ℕ) (went : Went) (ys : List ℕ) (l : 0 < c .left)
-        (e : went ≡ wentOf (rowsTried c (length (take (length s - at) (drop at s))) cells values (length (take (length out - o) (drop o out)))) c (take (length s - at) (drop at s)))
+        (e : went ≡ callRows (rowsTried c (length (take (length s - at) (drop at s))) cells values (length (take (length out - o) (drop o out)))) c (take (length s - at) (drop at s)))
         (ey : ys ≡ sets (take (length out - o) (drop o out)) 0 (rowLines (went .rows) c (take (length s - at) (drop at s)))) where
       here : WentRowByRow (rowsTried c (length (drop at s)) cells values (length (take (length out - o) (drop o out)))) c (drop at s) went
       here = went-here s c at cells values (length (take (length out - o) (drop o out))) went e

@@ -13,13 +13,13 @@ use Rattle.lemmas.specs.Lists.{sets-append, to-end}
 use Rattle.refusal.specs.declared.Refusal.{Refusal}
 use Rattle.refusal.specs.Refusal.{numberOf, passes}
 use Rattle.npy.specs.declared.reader.Head.{Head}
-use Rattle.npy.specs.Header.{isAccepted, refusedHead, headerOf}
+use Rattle.npy.specs.Header.{isAccepted, refusedHead, callHeader}
 use Rattle.npy.specs.HeaderLaws.{refused-is}
 use Rattle.npy.specs.AcceptedHeader.{shape-small}
 use Rattle.trace.specs.declared.course.Course.{Course}
 use Rattle.trace.specs.declared.course.Begun.{Begun}
 use Rattle.trace.specs.declared.course.Measured.{Measured}
-use Rattle.trace.specs.Trace.{startOf, courseRefusal, refusedLine, reasonText, courseLines, courseText, replayOf, replayRefusal}
+use Rattle.trace.specs.Trace.{callStart, courseRefusal, refusedLine, reasonText, courseLines, courseText, replayOf, replayRefusal}
 use Rattle.trace.specs.Slices.{measuredOf, wrote, wroteCount, replayedOf}
 use Rattle.trace.specs.AcceptedStart.{secondAt, accepted-start, start-within}
 use Rattle.trace.specs.MeasureLaws.{count-left, lines-length}
@@ -27,13 +27,13 @@ use Rattle.trace.specs.EndLaws.{one-digit, two-digits}
 use Rattle.trace.specs.PrintLaws.{part-put}
 
 -- a header names fewer than 10⁹ rows; refused, none
-pub few-rows : (s : List ℕ) → headerOf s .rows < 1000000000
+pub few-rows : (s : List ℕ) → callHeader s .rows < 1000000000
 unfolding refusedHead
-few-rows s = go (isAccepted (headerOf s)) refl
+few-rows s = go (isAccepted (callHeader s)) refl
   where
-    go : (t : Bool) → isAccepted (headerOf s) ≡ t → headerOf s .rows < 1000000000
+    go : (t : Bool) → isAccepted (callHeader s) ≡ t → callHeader s .rows < 1000000000
     go true e = shape-small s e .0
-    go false e = let z : headerOf s .rows ≡ 0 = ap (λ (h : Head). h .rows) (refused-is s e) in omega arith
+    go false e = let z : callHeader s .rows ≡ 0 = ap (λ (h : Head). h .rows) (refused-is s e) in omega arith
 
 -- ---- what a start that is not refused is
 
@@ -42,7 +42,7 @@ pub record StartBounds (b : Begun) (len : ℕ) : Type 0 where
   pub few : b .course .left < 1000000000
   pub there : b .at ≤ len
 
-pub start-bounds : (s : List ℕ) → passes (startOf s .refusal) ≡ true → StartBounds (startOf s) (length s)
+pub start-bounds : (s : List ℕ) → passes (callStart s .refusal) ≡ true → StartBounds (callStart s) (length s)
 start-bounds s e =
     let g = accepted-start s e in
     record {
@@ -115,16 +115,16 @@ module _ (c : Course) (s : List ℕ) (m : Measured) (e : m ≡ measuredOf c s) w
       let ys′ : ys ≡ sets (take (length out₁ - m .rows * (c .lanes * 9)) (drop (m .rows * (c .lanes * 9)) out₁)) 0 (reasonText (m .refusal)) = ey ∙ rw (le-leb _ _ fit) in
       part-put why ys out₁ o ys′ ∙ rw (e1, measured-refusal, measured-lines) (sym (rw (zero-add (length (courseLines c s))) at (sets-append (courseLines c s) (reasonText (courseRefusal c s)) out 0)))
 
-pub replay-of-refused : (s : List ℕ) (b : Begun) (t : Bool) → b ≡ startOf s → t ≡ passes (b .refusal) → t ≡ false → (replayRefusal s ≡ b .refusal) × (replayOf s ≡ refusedLine (b .refusal))
+pub replay-of-refused : (s : List ℕ) (b : Begun) (t : Bool) → b ≡ callStart s → t ≡ passes (b .refusal) → t ≡ false → (replayRefusal s ≡ b .refusal) × (replayOf s ≡ refusedLine (b .refusal))
 unfolding replayRefusal replayOf
-replay-of-refused s b t e et h = let g : passes (startOf s .refusal) ≡ false = rw (← e, ← et) h in (rw (g, e), rw (g, e))
+replay-of-refused s b t e et h = let g : passes (callStart s .refusal) ≡ false = rw (← e, ← et) h in (rw (g, e), rw (g, e))
 
-pub replay-of-trace : (s : List ℕ) (b : Begun) (t : Bool) → b ≡ startOf s → t ≡ passes (b .refusal) → t ≡ true
+pub replay-of-trace : (s : List ℕ) (b : Begun) (t : Bool) → b ≡ callStart s → t ≡ passes (b .refusal) → t ≡ true
     → (replayRefusal s ≡ courseRefusal (b .course) (take (length s - b .at) (drop (b .at) s))) × (replayOf s ≡ courseText (b .course) (take (length s - b .at) (drop (b .at) s)))
 unfolding replayRefusal replayOf
-replay-of-trace s b t e et h = let g : passes (startOf s .refusal) ≡ true = rw (← e, ← et) h in (rw (to-end s (b .at), g, e), rw (to-end s (b .at), g, e))
+replay-of-trace s b t e et h = let g : passes (callStart s .refusal) ≡ true = rw (← e, ← et) h in (rw (to-end s (b .at), g, e), rw (to-end s (b .at), g, e))
 
-pub start-bounds-from : (s : List ℕ) (b : Begun) (t : Bool) → b ≡ startOf s → t ≡ passes (b .refusal) → t ≡ true → StartBounds b (length s)
+pub start-bounds-from : (s : List ℕ) (b : Begun) (t : Bool) → b ≡ callStart s → t ≡ passes (b .refusal) → t ≡ true → StartBounds b (length s)
 start-bounds-from s b t e et h = rw e (start-bounds s (rw (← e, ← et) h))
 
 pub refused-answer : (why : Refusal) (need n : ℕ) (out out′ : List ℕ) → passes why ≡ false → need ≡ length (reasonText why)

@@ -16,29 +16,29 @@ use Rattle.refusal.specs.declared.Refusal.the-variants as Refusal
 use Rattle.refusal.specs.Refusal.{passes}
 use Rattle.npy.specs.declared.reader.Kind.the-variants.{F4}
 use Rattle.npy.specs.declared.reader.Head.{Head}
-use Rattle.npy.specs.Header.{headerOf, isAccepted}
+use Rattle.npy.specs.Header.{callHeader, isAccepted}
 use Rattle.npy.specs.HeaderLaws.{at-within}
 use Rattle.npy.specs.HeaderStart.{leb-take, window-decides}
 use Rattle.npy.specs.CellLaws.{cell-start}
 use Rattle.bank.specs.declared.Bank.{Bank}
 use Rattle.trace.specs.LanesInTurn.{each-take}
-use Rattle.trace.specs.Trace.{isF4, settingsBytes, settingsRefusal, openOf, openedBank, refusedStart, unless, traceStart, startOf}
+use Rattle.trace.specs.Trace.{isF4, settingsBytes, settingsRefusal, openOf, openedBank, refusedStart, unless, traceStart, callStart}
 use Rattle.trace.specs.AcceptedStart.{settings-parts, secondAt}
 
 abbrev pub startBytes : ℕ
 startBytes = 2184
 
 -- the data of an array begin at byte 1,012 at the latest
-pub at-small : (s : List ℕ) → headerOf s .at ≤ 1012
+pub at-small : (s : List ℕ) → callHeader s .at ≤ 1012
 at-small s =
-    let h : headerOf (take 1012 s) .at ≤ min 1012 (length s) = rw length-take at (at-within (take 1012 s)) in
-    let e : headerOf (take 1012 s) .at ≡ headerOf s .at = ap (λ (x : Head). x .at) (window-decides 1012 s (omega arith)) in
+    let h : callHeader (take 1012 s) .at ≤ min 1012 (length s) = rw length-take at (at-within (take 1012 s)) in
+    let e : callHeader (take 1012 s) .at ≡ callHeader s .at = ap (λ (x : Head). x .at) (window-decides 1012 s (omega arith)) in
     omega arith
 
 trace-take : (k : ℕ) (b : Bank) (at n : ℕ) (s : List ℕ) → at + 1012 ≤ n → traceStart k b at (take n s) ≡ traceStart k b at s
 unfolding traceStart
 trace-take k b at n s h =
-    let e : headerOf (drop at (take n s)) ≡ headerOf (drop at s) = rw (drop-take at n s) (window-decides (n - at) (drop at s) (omega arith)) in
+    let e : callHeader (drop at (take n s)) ≡ callHeader (drop at s) = rw (drop-take at n s) (window-decides (n - at) (drop at s) (omega arith)) in
     rw e
 
 open-of-take : (m : ℕ) (s : List ℕ) → 20 ≤ m → openOf (take m s) ≡ openOf s
@@ -67,33 +67,33 @@ settings-take n s h l = go (leb 1 (h .rows)) (leb (h .rows) 8) refl (eqb (h .col
     go true false e d = refl
     go false b e d = refl
 
-pub start-take : (n : ℕ) (s : List ℕ) → startBytes ≤ n → startOf (take n s) ≡ startOf s
-unfolding startOf unless
+pub start-take : (n : ℕ) (s : List ℕ) → startBytes ≤ n → callStart (take n s) ≡ callStart s
+unfolding callStart unless
 start-take n s h =
-    rw (window-decides n s (omega arith), settings-take n s (headerOf s) (omega (arith, at-small s)))
-    (go (passes (settingsRefusal (headerOf s) (length s))) refl)
+    rw (window-decides n s (omega arith), settings-take n s (callHeader s) (omega (arith, at-small s)))
+    (go (passes (settingsRefusal (callHeader s) (length s))) refl)
   where
-    go : (t : Bool) → passes (settingsRefusal (headerOf s) (length s)) ≡ t
-        → cond (passes (settingsRefusal (headerOf s) (length s)))
-        (traceStart (headerOf s .rows) (openedBank (headerOf s .rows) (drop (headerOf s .at) (take n s))) (secondAt s) (take n s))
-        (refusedStart (settingsRefusal (headerOf s) (length s)))
-        ≡ cond (passes (settingsRefusal (headerOf s) (length s)))
-        (traceStart (headerOf s .rows) (openedBank (headerOf s .rows) (drop (headerOf s .at) s)) (secondAt s) s)
-        (refusedStart (settingsRefusal (headerOf s) (length s)))
+    go : (t : Bool) → passes (settingsRefusal (callHeader s) (length s)) ≡ t
+        → cond (passes (settingsRefusal (callHeader s) (length s)))
+        (traceStart (callHeader s .rows) (openedBank (callHeader s .rows) (drop (callHeader s .at) (take n s))) (secondAt s) (take n s))
+        (refusedStart (settingsRefusal (callHeader s) (length s)))
+        ≡ cond (passes (settingsRefusal (callHeader s) (length s)))
+        (traceStart (callHeader s .rows) (openedBank (callHeader s .rows) (drop (callHeader s .at) s)) (secondAt s) s)
+        (refusedStart (settingsRefusal (callHeader s) (length s)))
     go false e = rw e
     go true e =
-        let p = settings-parts (headerOf s) (length s) e in
+        let p = settings-parts (callHeader s) (length s) e in
         rw (
           e,
-          trace-take (headerOf s .rows) (openedBank (headerOf s .rows) (drop (headerOf s .at) (take n s))) (secondAt s) n s (omega (arith, p .few, at-small s)),
-          opened-take (headerOf s .rows) (headerOf s .at) n s (omega (arith, p .few, at-small s)),
+          trace-take (callHeader s .rows) (openedBank (callHeader s .rows) (drop (callHeader s .at) (take n s))) (secondAt s) n s (omega (arith, p .few, at-small s)),
+          opened-take (callHeader s .rows) (callHeader s .at) n s (omega (arith, p .few, at-small s)),
         )
 
 -- it has read enough: the bytes of a start or more, or all that there is
 abbrev pub Enough : List ℕ → List ℕ → Type 0
 Enough first rest = (startBytes ≤ length first) ⊎ (rest ≡ [])
 
-pub start-early : (first rest : List ℕ) → Enough first rest → startOf first ≡ startOf (first ++ rest)
+pub start-early : (first rest : List ℕ) → Enough first rest → callStart first ≡ callStart (first ++ rest)
 start-early first rest h =
     ⊎-elim
     (λ (l : startBytes ≤ length first). rw (take-append-seam first rest) at (start-take (length first) (first ++ rest) l))

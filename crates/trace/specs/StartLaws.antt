@@ -16,7 +16,7 @@ use Rattle.refusal.specs.Refusal.{passes}
 use Rattle.npy.specs.declared.reader.Kind.{Kind}
 use Rattle.npy.specs.declared.reader.Kind.the-variants.{F4}
 use Rattle.npy.specs.declared.reader.Head.{Head}
-use Rattle.npy.specs.Header.{hasCells, isAccepted, headerOf}
+use Rattle.npy.specs.Header.{hasCells, isAccepted, callHeader}
 use Rattle.npy.specs.HeaderLaws.{at-within}
 use Rattle.npy.specs.Cell.{cellOf}
 use Rattle.bank.specs.declared.lane.Op.{Op}
@@ -28,7 +28,7 @@ use Rattle.bank.specs.BankRuns.{after}
 use Rattle.lanes.specs.Runs.{left}
 use Rattle.trace.specs.declared.course.Begun.{Begun}
 use Rattle.trace.specs.LanesInTurn.{inTurn, readEach}
-use Rattle.trace.specs.Trace.{isF4, settingsRefusal, openOf, openedBank, traceRefusal, refusedStart, unless, traceStart, startOf}
+use Rattle.trace.specs.Trace.{isF4, settingsRefusal, openOf, openedBank, traceRefusal, refusedStart, unless, traceStart, callStart}
 use Rattle.trace.specs.AcceptedStart.{AcceptedSettings, settings-parts}
 
 -- ---- the settings, test by test
@@ -114,36 +114,36 @@ module _ (s : List ℕ) where
 
 -- ---- the start
 
-pub trace-refused : (k at : ℕ) (b : Bank) (s : List ℕ) (h : Head) (why : Refusal) (t : Bool) (r : Begun) → h ≡ headerOf (take (length s - at) (drop at s)) → why ≡ traceRefusal k h
+pub trace-refused : (k at : ℕ) (b : Bank) (s : List ℕ) (h : Head) (why : Refusal) (t : Bool) (r : Begun) → h ≡ callHeader (take (length s - at) (drop at s)) → why ≡ traceRefusal k h
     → t ≡ passes why → t ≡ false → r ≡ refusedStart why → r ≡ traceStart k b at s
 unfolding traceStart unless
 trace-refused k at b s h why t r eh ew et g er =
-    let eh' : h ≡ headerOf (drop at s) = rw (to-end s at) at eh in
+    let eh' : h ≡ callHeader (drop at s) = rw (to-end s at) at eh in
     er ∙ rw (← eh', ← ew, ← et, g)
 
-pub trace-started : (k at : ℕ) (b : Bank) (s : List ℕ) (h : Head) (why : Refusal) (t : Bool) → h ≡ headerOf (take (length s - at) (drop at s)) → why ≡ traceRefusal k h
+pub trace-started : (k at : ℕ) (b : Bank) (s : List ℕ) (h : Head) (why : Refusal) (t : Bool) → h ≡ callHeader (take (length s - at) (drop at s)) → why ≡ traceRefusal k h
     → t ≡ passes why → t ≡ true
     → record { refusal = Refusal.None; course = record { kind = h .kind; lanes = k; left = h .rows; bank = b }; at = at + h .at } ≡ traceStart k b at s
 unfolding traceStart unless
 trace-started k at b s h why t eh ew et g =
-    let eh' : h ≡ headerOf (drop at s) = rw (to-end s at) at eh in
+    let eh' : h ≡ callHeader (drop at s) = rw (to-end s at) at eh in
     rw (← eh', ← ew, ← et, g)
 
 -- the place after the second header is one of the file's
-pub place-within : (at : ℕ) (s : List ℕ) (h : Head) → h ≡ headerOf (take (length s - at) (drop at s)) → h .at ≤ length s - at
-place-within at s h e = rw e (subst (λ (n : ℕ). headerOf (take (length s - at) (drop at s)) .at ≤ n) (long s at) (at-within (take (length s - at) (drop at s))))
+pub place-within : (at : ℕ) (s : List ℕ) (h : Head) → h ≡ callHeader (take (length s - at) (drop at s)) → h .at ≤ length s - at
+place-within at s h e = rw e (subst (λ (n : ℕ). callHeader (take (length s - at) (drop at s)) .at ≤ n) (long s at) (at-within (take (length s - at) (drop at s))))
   where
     long : (s : List ℕ) (at : ℕ) → length (take (length s - at) (drop at s)) ≡ length s - at
     long s at = rw (to-end s at) (length-drop at s)
 
-pub start-refused : (s : List ℕ) (h : Head) (why : Refusal) (t : Bool) (r : Begun) → h ≡ headerOf s → why ≡ settingsRefusal h (length s) → t ≡ passes why → t ≡ false
-    → r ≡ refusedStart why → r ≡ startOf s
-unfolding startOf unless
+pub start-refused : (s : List ℕ) (h : Head) (why : Refusal) (t : Bool) (r : Begun) → h ≡ callHeader s → why ≡ settingsRefusal h (length s) → t ≡ passes why → t ≡ false
+    → r ≡ refusedStart why → r ≡ callStart s
+unfolding callStart unless
 start-refused s h why t r eh ew et g er = er ∙ rw (← eh, ← ew, ← et, g)
 
-pub start-given : (s : List ℕ) (h : Head) (why : Refusal) (t : Bool) (b : Bank) (r : Begun) → h ≡ headerOf s → why ≡ settingsRefusal h (length s) → t ≡ passes why → t ≡ true
-    → b ≡ openedBank (h .rows) (take (length s - h .at) (drop (h .at) s)) → r ≡ traceStart (h .rows) b (h .at + h .rows * 20) s → r ≡ startOf s
-unfolding startOf unless
+pub start-given : (s : List ℕ) (h : Head) (why : Refusal) (t : Bool) (b : Bank) (r : Begun) → h ≡ callHeader s → why ≡ settingsRefusal h (length s) → t ≡ passes why → t ≡ true
+    → b ≡ openedBank (h .rows) (take (length s - h .at) (drop (h .at) s)) → r ≡ traceStart (h .rows) b (h .at + h .rows * 20) s → r ≡ callStart s
+unfolding callStart unless
 start-given s h why t b r eh ew et g eb er =
     let eb' : b ≡ openedBank (h .rows) (drop (h .at) s) = rw (to-end s (h .at)) at eb in
     er ∙ rw (← eh, ← ew, ← et, g, eb')

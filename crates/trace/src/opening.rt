@@ -6,7 +6,7 @@ ghost use lib.Dec.{leb, eqb};
 ghost use lib.ListN.{length, drop};
 ghost use Rattle.npy.specs.Header.{hasCells};
 ghost use Rattle.trace.specs.StartBytes.{startBytes};
-ghost use Rattle.trace.specs.Trace.{isF4, settingsRefusal, openOf, openedBank, traceRefusal, refusedStart, traceStart, startOf};
+ghost use Rattle.trace.specs.Trace.{isF4, settingsRefusal, openOf, openedBank, traceRefusal, refusedStart, traceStart, callStart};
 use crate::course::Begun;
 use crate::course::Course;
 use bank::Bank;
@@ -17,7 +17,7 @@ use npy::Kind;
 use refusal::Refusal;
 
 // So many bytes of a file, or all of it where it has fewer, are enough for `start`: it answers as for the whole file.
-pub fn enough() -> usize
+pub fn start_bytes() -> usize
     ensures { λ r. ⌜ r ≡ startBytes ⌝ }
 {
     2184
@@ -175,9 +175,9 @@ fn trace_start(k: usize, bank: Bank, at: usize, bytes: &[u8]) -> Begun
     }
 }
 
-// What the start of a file says. Of a longer file its first `enough()` bytes give the same answer.
+// What the start of a file says. Of a longer file its first `start_bytes()` bytes give the same answer.
 pub fn start(bytes: &[u8]) -> Begun
-    ensures { λ r. ⌜ r ≡ startOf (now (bytes .entry)) ⌝ }
+    ensures { λ r. ⌜ r ≡ callStart (now (bytes .entry)) ⌝ }
 {
     let head = npy::header(bytes);
     let why = settings_refusal(head, bytes.len());

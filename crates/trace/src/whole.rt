@@ -10,11 +10,11 @@ ghost use Rattle.trace.specs.PrintLaws.{Printable};
 ghost use Rattle.refusal.specs.Refusal.{passes};
 use crate::course::Course;
 use crate::course::Replayed;
-use crate::ending::reason_line;
-use crate::ending::refused_line;
 use crate::going::rows;
 use crate::measure::measured;
 use crate::opening::start;
+use crate::refusal_line::reason_line;
+use crate::refusal_line::refused_line;
 use refusal::Refusal;
 
 // How many bytes the line of a refusal has.

@@ -1,7 +1,7 @@
 use Rattle.airframe.specs.AirframeLaws.{one-less, motors-on, motors-end, four-more, all-written}
 use Rattle.airframe.specs.Airframe.{motorsOf, column, divided, four, entries}
 use Rattle.airframe.specs.declared.Motor.{Motor}
-use Rattle.airframe.specs.declared.Rows.{Rows}
+use Rattle.airframe.specs.declared.PerRow.{PerRow}
 use lib.Ieee.{Float}
 use lib.ListN.{take, set, length-set, length, drop}
 use mathlib.Core.List.{List, _∷_, _++_}
@@ -13,7 +13,7 @@ use Rattle.airframe.proofs.divide.Statement.{statement}
 use Rattle.airframe.proofs.divide.Tie as tie
 
 -- four numbers more are in their place
-put-entries : (l : List Float) (at : ℕ) (s : Rows) (a m : Motor) (b e : Rows) (rest ms : List Motor) (whole : List Float)
+put-entries : (l : List Float) (at : ℕ) (s : PerRow) (a m : Motor) (b e : PerRow) (rest ms : List Motor) (whole : List Float)
     → at + 4 ≤ length l → a ≡ m → b ≡ column a → e ≡ divided b s → ms ≡ m ∷ rest → take at l ++ entries s ms ≡ whole
     → take (at + 4) (set (set (set (set l at (e .roll)) (at + 1) (e .pitch)) (at + 2) (e .yaw)) (at + 3) (e .thrust)) ++ entries s rest ≡ whole
 unfolding entries four

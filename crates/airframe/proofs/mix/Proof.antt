@@ -1,7 +1,7 @@
 use Rattle.airframe.specs.Airframe.{sumsOf, goodSums, entries, zeros, refusalOf, matrixOf}
 use Rattle.airframe.specs.AirframeLaws.{refusal-good, refusal-bad, matrix-good, matrix-bad}
 use Rattle.airframe.specs.declared.Motor.{Motor}
-use Rattle.airframe.specs.declared.Rows.{Rows}
+use Rattle.airframe.specs.declared.PerRow.{PerRow}
 use Rattle.refusal.specs.declared.Refusal.the-variants as Refusal
 use lib.Ieee.{Float}
 use mathlib.Core.Bool.{Bool, true, false}
@@ -14,7 +14,7 @@ use Rattle.airframe.proofs.mix.Statement.{statement}
 use Rattle.airframe.proofs.mix.Tie as tie
 
 -- what each arm answers, from what its calls ensure
-module _ (ms : List Motor) (s : Rows) (b : Bool) (out : List Float) where
+module _ (ms : List Motor) (s : PerRow) (b : Bool) (out : List Float) where
   accepted : s ≡ sumsOf ms → b ≡ goodSums s → b ≡ true → out ≡ entries s ms → (Refusal.None ≡ refusalOf ms) × (out ≡ matrixOf ms)
   accepted e p h o =
       let g : goodSums (sumsOf ms) ≡ true = ap goodSums (sym e) ∙ sym p ∙ h in

@@ -1,7 +1,7 @@
 use Rattle.airframe.specs.Airframe.{motorsOf, column, addSquares, sums, sumsOf}
 use Rattle.airframe.specs.AirframeLaws.{motors-on, motors-end}
 use Rattle.airframe.specs.declared.Motor.{Motor}
-use Rattle.airframe.specs.declared.Rows.{Rows}
+use Rattle.airframe.specs.declared.PerRow.{PerRow}
 use mathlib.Core.List.{List, [], _∷_}
 use mathlib.Core.Path.{_≡_, refl}
 use Prim.Native.Nat.{_≤_, _-_}
@@ -12,8 +12,8 @@ use Rattle.airframe.proofs.row_sums.Statement.{statement}
 use Rattle.airframe.proofs.row_sums.Tie as tie
 
 -- the sum of all is the sum of the motors that are left, added to what was summed
-module _ (s whole : Rows) (ms : List Motor) where
-  turn : (rest : List Motor) (m a : Motor) (b d : Rows) → a ≡ m → b ≡ column a → d ≡ addSquares s b → ms ≡ m ∷ rest → sums s ms ≡ whole → sums d rest ≡ whole
+module _ (s whole : PerRow) (ms : List Motor) where
+  turn : (rest : List Motor) (m a : Motor) (b d : PerRow) → a ≡ m → b ≡ column a → d ≡ addSquares s b → ms ≡ m ∷ rest → sums s ms ≡ whole → sums d rest ≡ whole
   unfolding sums
   turn rest m a b d p q r h i = rw (r, q, p) (rw h at i)
 

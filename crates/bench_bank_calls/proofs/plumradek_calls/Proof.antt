@@ -1,5 +1,5 @@
 use Rattle.bench_updates.specs.Updates.{start, turn, ended}
-use Rattle.bench_bank_calls.specs.Calls.{BankRun, bankAfter, outAfter, callAt}
+use Rattle.bench_bank_calls.specs.Calls.{BankRun, bankAfter, bankOutAfter, callInTurn}
 use Prim.Native.Nat.{_-_}
 use native.Mathlib.Omega.{arith}
 use Rattle.bench_bank_calls.proofs.plumradek_calls.Statement.{statement}
@@ -69,14 +69,14 @@ loop-less : tie.Need-loop-less Inv-loop μ-loop
 loop-less c = omega arith
 
 loop-again : tie.Need-loop-again Inv-loop μ-loop
-unfolding callAt
+unfolding callInTurn
 loop-again c = turn _ _ _ _ _ _ _ _ _ _ (c .before .before .before .before .before .before .before .loop .inv) (omega arith) _ (c .before .before .update .ensures)
 
 same-length : tie.Need-same-length Inv-loop μ-loop
 same-length c = omega arith
 
 returns : tie.Need-returns Inv-loop μ-loop
-unfolding outAfter bankAfter
+unfolding bankOutAfter bankAfter
 returns c = ended _ _ _ _ _ _ _ _ _ _ (c .before .loop .inv) (omega arith)
 
 pub plumradek-calls-spec : {M : Type 1} → statement M

@@ -12,8 +12,8 @@ Inv-loop input₀ enough₀ to₀ input to = (length input ≡ length input₀) 
 abbrev μ-loop : tie.MeasureT-loop
 μ-loop input₀ enough₀ to₀ input to = enough₀ - to
 
-enough-requires : tie.Need-enough-requires Inv-loop μ-loop
-enough-requires c κs = search needs
+start-bytes-requires : tie.Need-start-bytes-requires Inv-loop μ-loop
+start-bytes-requires c κs = search needs
 
 loop-holds : tie.Need-loop-holds Inv-loop μ-loop
 loop-holds c = omega arith
@@ -54,7 +54,7 @@ gather-spec =
     (tie.spec
     Inv-loop
     μ-loop
-    enough-requires
+    start-bytes-requires
     loop-holds
     read-more-requires
     same-length

@@ -4,7 +4,7 @@ use Prim.Native.Nat.{_≤_, _-_}
 use native.Mathlib.Omega.{arith}
 use lib.ListN.{replicate}
 use Rattle.float.specs.F32 as F
-use Rattle.filters.specs.MovingAverage.{windowOf}
+use Rattle.filters.specs.MovingAverage.{newWithValueMovingAverage}
 use Rattle.filters.proofs.Turns.{fill-turn}
 use Rattle.filters.proofs.moving_average.filled.Statement.{statement}
 use Rattle.filters.proofs.moving_average.filled.Tie as tie
@@ -36,7 +36,7 @@ loop-again c =
     (omega arith, rw (l .inv .1) (fill-turn (l .i) _ (omega arith)))
 
 returns : tie.Need-returns Inv-loop μ-loop
-unfolding windowOf
+unfolding newWithValueMovingAverage
 returns c =
     let l = c .before .loop in
     let e : l .i ≡ c .before .before .args .length = omega arith in

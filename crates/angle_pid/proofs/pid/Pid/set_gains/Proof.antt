@@ -1,4 +1,4 @@
-use Rattle.angle_pid.specs.Pid.{withGains}
+use Rattle.angle_pid.specs.Pid.{setGainsPid}
 use borrow.Author.Needs.{needs}
 use Rattle.angle_pid.specs.Pid.{callSetGainsPid}
 use Rattle.angle_pid.proofs.pid.Pid.set_gains.Statement.{statement}
@@ -11,7 +11,7 @@ keep-requires : tie.Need-keep-requires
 keep-requires c κs = search needs
 
 returns : tie.Need-returns
-unfolding callSetGainsPid withGains
+unfolding callSetGainsPid setGainsPid
 returns c = simp (c .keep .ensures, c .before .refusal .ensures)
 
 pub set-gains-spec : {M : Type 1} → statement M

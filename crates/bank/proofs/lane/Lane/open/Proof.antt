@@ -25,8 +25,8 @@ new-requires c κs = search needs
 enum-told : tie.Need-enum-told
 enum-told c = search needs
 
-running-requires : tie.Need-running-requires
-running-requires c κs = search needs
+open-with-requires : tie.Need-open-with-requires
+open-with-requires c κs = search needs
 
 enum-known-slew : tie.Need-enum-known-slew
 enum-known-slew c = search needs
@@ -47,21 +47,21 @@ returns-3 c =
 slew-requires : tie.Need-slew-requires
 slew-requires c κs = search needs
 
-heard-requires : tie.Need-heard-requires
-heard-requires c κs = search needs
+after-setter-requires : tie.Need-after-setter-requires
+after-setter-requires c κs = search needs
 
 returns-4 : tie.Need-returns-4
 returns-4 c =
     let tested = c .before .before .before .before in
     open-plain _ _ _ _ _ _ _ _ (tested .before .before .before .if1 .left) (sym (tested .before .bad .ensures) ∙ tested .if2 .left)
-    _ (c .before .before .before .new .ensures) (c .before .enum-told .given .1) (c .running .ensures)
+    _ (c .before .before .before .new .ensures) (c .before .enum-told .given .1) (c .open-with .ensures)
 
 returns-5 : tie.Need-returns-5
 returns-5 c =
     let tested = c .before .before .before .before .before .before .before .before in
     open-slewed _ _ _ _ _ _ _ _ (tested .before .before .before .if1 .left) (sym (tested .before .bad .ensures) ∙ tested .if2 .left)
     _ (c .before .before .before .before .before .before .before .new .ensures) _ (c .before .before .before .before .before .slew .given .1)
-    (sym (c .before .before .before .bad-limit .ensures) ∙ c .before .before .if3 .left) _ (c .before .slew2 .ensures) (c .heard .ensures)
+    (sym (c .before .before .before .bad-limit .ensures) ∙ c .before .before .if3 .left) _ (c .before .slew2 .ensures) (c .after-setter .ensures)
 
 pub open-spec : {M : Type 1} → statement M
 open-spec =
@@ -74,12 +74,12 @@ open-spec =
     returns-2
     new-requires
     enum-told
-    running-requires
+    open-with-requires
     enum-known-slew
     bad-limit-requires
     plain-step-requires-3
     returns-3
     slew-requires
-    heard-requires
+    after-setter-requires
     returns-4
     returns-5)

@@ -7,12 +7,12 @@ use Rattle.bank.proofs.lane.Lane.set_ts.Tie as tie
 set-ts-requires : tie.Need-set-ts-requires
 set-ts-requires c κs = search needs
 
-heard-requires : tie.Need-heard-requires
-heard-requires c κs = search needs
+after-setter-requires : tie.Need-after-setter-requires
+after-setter-requires c κs = search needs
 
 returns : tie.Need-returns
 unfolding callLane
-returns c = setting _ (c .before .before .before .if1 .taken) _ _ _ (c .before .set-ts .ensures) (c .heard .ensures)
+returns c = setting _ (c .before .before .before .if1 .taken) _ _ _ (c .before .set-ts .ensures) (c .after-setter .ensures)
 
 plain-step-requires : tie.Need-plain-step-requires
 plain-step-requires c κs = search needs
@@ -22,4 +22,4 @@ unfolding callLane
 returns-2 c = shut _ (c .before .if1 .left) _ _ (c .plain-step .ensures)
 
 pub set-ts-spec : {M : Type 1} → statement M
-set-ts-spec = tie.close (tie.spec set-ts-requires heard-requires returns plain-step-requires returns-2)
+set-ts-spec = tie.close (tie.spec set-ts-requires after-setter-requires returns plain-step-requires returns-2)

@@ -4,8 +4,8 @@ use Rattle.refusal.specs.RefusalLaws.{number-small}
 use Rattle.trace.specs.EndLaws.{one-digit-short, two-digits-short, one-digit-written, two-digits-written}
 use native.Mathlib.Omega.{arith}
 use borrow.Author.Needs.{needs}
-use Rattle.trace.proofs.ending.refused_line.Statement.{statement}
-use Rattle.trace.proofs.ending.refused_line.Tie as tie
+use Rattle.trace.proofs.refusal_line.refused_line.Statement.{statement}
+use Rattle.trace.proofs.refusal_line.refused_line.Tie as tie
 
 number-requires : tie.Need-number-requires
 number-requires c κs = search needs

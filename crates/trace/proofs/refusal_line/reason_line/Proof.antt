@@ -1,7 +1,7 @@
 use Rattle.trace.specs.EndLaws.{reason-none, reason-some}
 use borrow.Author.Needs.{needs}
-use Rattle.trace.proofs.ending.reason_line.Statement.{statement}
-use Rattle.trace.proofs.ending.reason_line.Tie as tie
+use Rattle.trace.proofs.refusal_line.reason_line.Statement.{statement}
+use Rattle.trace.proofs.refusal_line.reason_line.Tie as tie
 
 passes-requires : tie.Need-passes-requires
 passes-requires c κs = search needs

@@ -5,8 +5,8 @@ use mathlib.Core.Path.{_≡_, refl, _∙_}
 use Prim.Native.Nat.{_≤_, _-_, _+_}
 use native.Mathlib.Omega.{arith}
 use lib.ListN.{length, drop}
-use Rattle.trace.proofs.ending.put.Statement.{statement}
-use Rattle.trace.proofs.ending.put.Tie as tie
+use Rattle.trace.proofs.refusal_line.put.Statement.{statement}
+use Rattle.trace.proofs.refusal_line.put.Tie as tie
 
 abbrev Inv-loop : tie.InvT-loop
 Inv-loop out₀ at text i₀ o₀ out i o = (sets out o (drop i text) ≡ sets out₀ at text) × (length out ≡ length out₀) × (o ≡ at + i) × (i ≤ length text)
