@@ -1,7 +1,7 @@
 -- A file is accepted exactly where nothing of it is refused; it then prints the lines of its rows and nothing else. Assumes nothing.
 use mathlib.Core.Path.{_≡_, _∙_, refl, sym, ap, subst}
 use mathlib.Core.List.{List, [], append-nil, _∷_}
-use mathlib.Core.Bool.{true, Bool, false, true≢false}
+use mathlib.Core.Bool.{true, Bool, false}
 use mathlib.Core.Logic.{inl, ⊎-elim}
 use Prim.Native.Nat.{ℕ, _*_, _≤_, _<_}
 use native.Mathlib.Omega.{arith}
