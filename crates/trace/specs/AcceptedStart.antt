@@ -16,7 +16,7 @@ use Rattle.npy.specs.declared.reader.Head.{Head}
 use Rattle.npy.specs.Header.{hasCells, cellWidth, isAccepted, callHeader}
 use Rattle.npy.specs.HeaderLaws.{at-within}
 use Rattle.trace.specs.declared.course.Begun.{Begun}
-use Rattle.trace.specs.Trace.{isF4, settingsBytes, settingsRefusal, openedBank, traceRefusal, unless, traceStart, refusedStart, callStart, rowWidth}
+use Rattle.trace.specs.Trace.{isF4, settingsBytes, settingsRefusal, openedBank, traceRefusal, startUnless, traceStart, refusedStart, callStart, rowWidth}
 
 -- a refusal that is given only where a test fails: it is not given, so the test holds, and no later refusal is given either
 not-given : (t : Bool) (x y : Refusal) → (t ≡ false → passes y ≡ false) → passes (cond t x y) ≡ true → (t ≡ true) × (passes x ≡ true)
@@ -79,9 +79,9 @@ pub record AcceptedStart (s : List ℕ) : Type 0 where
   pub at : callStart s .at ≡ secondAt s + secondHead s .at
 
 -- a start that is accepted is what comes after the test, which holds
-unless-passed : (why : Refusal) (next : Begun) → passes (unless why next .refusal) ≡ true → (passes why ≡ true) × (unless why next ≡ next)
-unfolding unless refusedStart
-unless-passed why next = go (passes why) refl
+start-unless-passed : (why : Refusal) (next : Begun) → passes (startUnless why next .refusal) ≡ true → (passes why ≡ true) × (startUnless why next ≡ next)
+unfolding startUnless refusedStart
+start-unless-passed why next = go (passes why) refl
   where
     go : (t : Bool) → passes why ≡ t → passes (cond t next (refusedStart why) .refusal) ≡ true → (t ≡ true) × (cond t next (refusedStart why) ≡ next)
     go false e h = absurd (true≢false (sym h ∙ e))
@@ -90,8 +90,8 @@ unless-passed why next = go (passes why) refl
 pub accepted-start : (s : List ℕ) → passes (callStart s .refusal) ≡ true → AcceptedStart s
 unfolding callStart traceStart
 accepted-start s h =
-    let first = unless-passed _ _ h in
-    let second = unless-passed (traceRefusal (callHeader s .rows) (secondHead s)) _ (subst (λ (b : Begun). passes (b .refusal) ≡ true) (first .1) h) in
+    let first = start-unless-passed _ _ h in
+    let second = start-unless-passed (traceRefusal (callHeader s .rows) (secondHead s)) _ (subst (λ (b : Begun). passes (b .refusal) ≡ true) (first .1) h) in
     let is = first .1 ∙ second .1 in
     record {
       settings = settings-parts (callHeader s) (length s) (first .0);

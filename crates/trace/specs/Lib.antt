@@ -3,7 +3,7 @@ pub mod Trace
 pub mod Slices
 pub mod Taken
 pub mod RowRefusalLaws
-pub mod WentLaws
+pub mod RowsTakenLaws
 pub mod RowsForLaws
 pub mod AcceptedStart
 pub mod StartLaws

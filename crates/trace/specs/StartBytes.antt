@@ -22,7 +22,7 @@ use Rattle.npy.specs.HeaderStart.{leb-take, window-decides}
 use Rattle.npy.specs.CellLaws.{cell-start}
 use Rattle.bank.specs.declared.Bank.{Bank}
 use Rattle.trace.specs.LanesInTurn.{each-take}
-use Rattle.trace.specs.Trace.{isF4, settingsBytes, settingsRefusal, openOf, openedBank, refusedStart, unless, traceStart, callStart}
+use Rattle.trace.specs.Trace.{isF4, settingsBytes, settingsRefusal, openOf, openedBank, refusedStart, startUnless, traceStart, callStart}
 use Rattle.trace.specs.AcceptedStart.{settings-parts, secondAt}
 
 abbrev pub startBytes : ℕ
@@ -68,7 +68,7 @@ settings-take n s h l = go (leb 1 (h .rows)) (leb (h .rows) 8) refl (eqb (h .col
     go false b e d = refl
 
 pub start-take : (n : ℕ) (s : List ℕ) → startBytes ≤ n → callStart (take n s) ≡ callStart s
-unfolding callStart unless
+unfolding callStart startUnless
 start-take n s h =
     rw (window-decides n s (omega arith), settings-take n s (callHeader s) (omega (arith, at-small s)))
     (go (passes (settingsRefusal (callHeader s) (length s))) refl)

@@ -28,7 +28,7 @@ use Rattle.bank.specs.BankRuns.{after}
 use Rattle.lanes.specs.Runs.{left}
 use Rattle.trace.specs.declared.course.Begun.{Begun}
 use Rattle.trace.specs.LanesInTurn.{inTurn, readEach}
-use Rattle.trace.specs.Trace.{isF4, settingsRefusal, openOf, openedBank, traceRefusal, refusedStart, unless, traceStart, callStart}
+use Rattle.trace.specs.Trace.{isF4, settingsRefusal, openOf, openedBank, traceRefusal, refusedStart, startUnless, traceStart, callStart}
 use Rattle.trace.specs.AcceptedStart.{AcceptedSettings, settings-parts}
 
 -- ---- the settings, test by test
@@ -116,7 +116,7 @@ module _ (s : List ℕ) where
 
 pub trace-refused : (k at : ℕ) (b : Bank) (s : List ℕ) (h : Head) (why : Refusal) (t : Bool) (r : Begun) → h ≡ callHeader (take (length s - at) (drop at s)) → why ≡ traceRefusal k h
     → t ≡ passes why → t ≡ false → r ≡ refusedStart why → r ≡ traceStart k b at s
-unfolding traceStart unless
+unfolding traceStart startUnless
 trace-refused k at b s h why t r eh ew et g er =
     let eh' : h ≡ callHeader (drop at s) = rw (to-end s at) at eh in
     er ∙ rw (← eh', ← ew, ← et, g)
@@ -124,7 +124,7 @@ trace-refused k at b s h why t r eh ew et g er =
 pub trace-started : (k at : ℕ) (b : Bank) (s : List ℕ) (h : Head) (why : Refusal) (t : Bool) → h ≡ callHeader (take (length s - at) (drop at s)) → why ≡ traceRefusal k h
     → t ≡ passes why → t ≡ true
     → record { refusal = Refusal.None; course = record { kind = h .kind; lanes = k; left = h .rows; bank = b }; at = at + h .at } ≡ traceStart k b at s
-unfolding traceStart unless
+unfolding traceStart startUnless
 trace-started k at b s h why t eh ew et g =
     let eh' : h ≡ callHeader (drop at s) = rw (to-end s at) at eh in
     rw (← eh', ← ew, ← et, g)
@@ -138,12 +138,12 @@ place-within at s h e = rw e (subst (λ (n : ℕ). callHeader (take (length s - 
 
 pub start-refused : (s : List ℕ) (h : Head) (why : Refusal) (t : Bool) (r : Begun) → h ≡ callHeader s → why ≡ settingsRefusal h (length s) → t ≡ passes why → t ≡ false
     → r ≡ refusedStart why → r ≡ callStart s
-unfolding callStart unless
+unfolding callStart startUnless
 start-refused s h why t r eh ew et g er = er ∙ rw (← eh, ← ew, ← et, g)
 
 pub start-given : (s : List ℕ) (h : Head) (why : Refusal) (t : Bool) (b : Bank) (r : Begun) → h ≡ callHeader s → why ≡ settingsRefusal h (length s) → t ≡ passes why → t ≡ true
     → b ≡ openedBank (h .rows) (take (length s - h .at) (drop (h .at) s)) → r ≡ traceStart (h .rows) b (h .at + h .rows * 20) s → r ≡ callStart s
-unfolding callStart unless
+unfolding callStart startUnless
 start-given s h why t b r eh ew et g eb er =
     let eb' : b ≡ openedBank (h .rows) (drop (h .at) s) = rw (to-end s (h .at)) at eb in
     er ∙ rw (← eh, ← ew, ← et, g, eb')

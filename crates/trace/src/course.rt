@@ -21,7 +21,7 @@ pub struct Begun {
 // What a call of `rows` did: what the first refused row was refused with, the trace after the rows that it took (and, where one was refused, after
 // the updates of that row before the refused one), how many rows these were, how many bytes of the window they had, and how many bytes of text it
 // wrote.
-pub struct Went {
+pub struct RowsTaken {
     pub refusal: Refusal,
     pub course: Course,
     pub rows: usize,

@@ -9,7 +9,7 @@ mod whole;
 pub use course::Begun;
 pub use course::Course;
 pub use course::Replayed;
-pub use course::Went;
+pub use course::RowsTaken;
 pub use going::rows;
 pub use measure::end;
 pub use opening::start;

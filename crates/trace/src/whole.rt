@@ -4,8 +4,8 @@ ghost use Prim.Native.Nat.{_≤_, _<_};
 ghost use mathlib.Core.Bool.{false};
 ghost use lib.ListN.{length};
 ghost use lib.Seq.{sets};
-ghost use Rattle.trace.specs.Trace.{refusedLine, reasonText, courseRefusal, courseLines, courseText, replayOf, replayRefusal};
-ghost use Rattle.trace.specs.Slices.{replayedOf, wrote};
+ghost use Rattle.trace.specs.Trace.{refusedLine, reasonText, courseRefusal, courseLines, courseText, replayOf};
+ghost use Rattle.trace.specs.Slices.{replayedOf, callReplay, wrote};
 ghost use Rattle.trace.specs.PrintLaws.{Printable};
 ghost use Rattle.refusal.specs.Refusal.{passes};
 use crate::course::Course;
@@ -109,7 +109,7 @@ fn replay_refused(refusal: Refusal, out: &mut [u8]) -> Replayed
 // A whole file in memory: what it is refused with, how many bytes its text has, and the text at the start of `out`, where it has room for
 // the whole of it. Where it has not, nothing is written and `whole` is false.
 pub fn replay(bytes: &[u8], out: &mut [u8]) -> Replayed
-    ensures { λ r. ⌜ (r ≡ replayedOf (replayRefusal (now (bytes .entry))) (replayOf (now (bytes .entry))) (now (out .entry)))
+    ensures { λ r. ⌜ (r ≡ callReplay (now (bytes .entry)) (now (out .entry)))
         × (now (out .exit) ≡ wrote (now (out .entry)) (replayOf (now (bytes .entry)))) ⌝ }
 {
     let begun = start(bytes);
