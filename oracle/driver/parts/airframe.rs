@@ -46,7 +46,7 @@ fn mixed(setup: &MotorSetup<4>, to: &mut Answer) {
     }
 }
 
-/// Whether the Rust's matrix has these entries, but for the last places.
+/// Whether the Rust's matrix has these entries, but for the last places and the sign of a zero.
 fn near(entries: &[[f32; 4]; 4], setup: &MotorSetup<4>) -> bool {
     let Some(matrix) = setup.into_mixing_matrix() else { return false };
     entries.iter().flatten().zip(matrix.0.iter().flatten()).all(|(y, rust)| (y - rust).abs() <= y.abs() * 1e-6)
