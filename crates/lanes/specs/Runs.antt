@@ -1,8 +1,8 @@
 -- A run: calls one after the other on whatever answers a call and is left as something. Assumes nothing.
-use mathlib.Core.Path.{_≡_, refl, ap}
+use mathlib.Core.Path.{_≡_, refl, ap, _∙_}
 use Prim.Native.Nat.{suc}
 use mathlib.Core.Bool.{Bool, cond}
-use mathlib.Core.List.{List, [], _∷_, _++_}
+use mathlib.Core.List.{List, [], _∷_, _++_, flatten}
 use lib.ListN.{length}
 
 -- what a call is answered with, and what it leaves
@@ -54,6 +54,24 @@ module _ {S Q A : Type 0} (m : Machine S Q A) where
   pub left-more : (x : List Q) (q : Q) (s : S) → left m s (x ++ (q ∷ [])) ≡ m .next (left m s x) q
   unfolding left
   left-more x q s = left-append x (q ∷ []) s
+
+-- ---- a run in parts
+
+-- a part of a run as one call: its answers, and what they leave
+abbrev pub byParts : {S Q A : Type 0} → Machine S Q A → Machine S (List Q) (List A)
+byParts m = record { answer = answers m; next = left m }
+
+-- however a run is cut into parts, its answers and what it leaves are those of the parts one after the other
+module _ {S Q A : Type 0} (m : Machine S Q A) where
+  pub answers-parts : (parts : List (List Q)) (s : S) → answers m s (flatten parts) ≡ flatten (answers (byParts m) s parts)
+  unfolding answers left flatten
+  answers-parts [] s = refl
+  answers-parts (x ∷ parts) s = answers-append m x (flatten parts) s ∙ ap (_++_ (answers m s x)) (answers-parts parts (left m s x))
+
+  pub left-parts : (parts : List (List Q)) (s : S) → left m s (flatten parts) ≡ left (byParts m) s parts
+  unfolding left flatten
+  left-parts [] s = refl
+  left-parts (x ∷ parts) s = left-append m x (flatten parts) s ∙ left-parts parts (left m s x)
 
 -- ---- one machine that goes as another does
 

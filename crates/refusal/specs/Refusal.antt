@@ -1,9 +1,9 @@
--- The number that document 01's table gives each refusal; 0 is no refusal. And which of two comes first.
+-- The number that document 01's table, or a change request, gives each refusal; 0 is no refusal. And which of two comes first.
 use Prim.Native.Nat.{ℕ}
 use mathlib.Core.Bool.{Bool, cond}
 use lib.Dec.{eqb}
 use Rattle.refusal.specs.declared.Refusal.{Refusal}
-use Rattle.refusal.specs.declared.Refusal.the-variants.{None, Range, Tau, Slew, Alpha, Points, Steps, Motor, Lane, Closed, Open, Magic, Header, Kind, Shape, Cut, Rest, RowSum, Window}
+use Rattle.refusal.specs.declared.Refusal.the-variants.{None, Range, Tau, Slew, Alpha, Points, Steps, Motor, Lane, Closed, Open, Magic, Header, Kind, Shape, Cut, Rest, RowSum, Window, ShortRun}
 
 abbrev pub numberOf : Refusal → ℕ
 numberOf None = 0
@@ -25,6 +25,7 @@ numberOf Cut = 15
 numberOf Rest = 16
 numberOf RowSum = 17
 numberOf Window = 18
+numberOf ShortRun = 25
 
 -- nothing is refused
 unfoldable pub passes : Refusal → Bool

@@ -4,7 +4,7 @@ use mathlib.Core.Bool.{false, true≢false}
 use Prim.Native.Nat.{_<_}
 use native.Mathlib.Omega.{arith}
 use Rattle.refusal.specs.declared.Refusal.{Refusal}
-use Rattle.refusal.specs.declared.Refusal.the-variants.{None, Range, Tau, Slew, Alpha, Points, Steps, Motor, Lane, Closed, Open, Magic, Header, Kind, Shape, Cut, Rest, RowSum, Window}
+use Rattle.refusal.specs.declared.Refusal.the-variants.{None, Range, Tau, Slew, Alpha, Points, Steps, Motor, Lane, Closed, Open, Magic, Header, Kind, Shape, Cut, Rest, RowSum, Window, ShortRun}
 use Rattle.refusal.specs.Refusal.{numberOf, passes}
 
 pub number-small : (why : Refusal) → numberOf why < 100
@@ -27,6 +27,7 @@ number-small Cut = omega arith
 number-small Rest = omega arith
 number-small RowSum = omega arith
 number-small Window = omega arith
+number-small ShortRun = omega arith
 
 pub refused-not-none : (why : Refusal) → passes why ≡ false → why ≡ None → ⊥
 unfolding passes

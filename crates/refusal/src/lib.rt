@@ -41,6 +41,8 @@ pub enum Refusal {
     RowSum,
     // A window's length is not 1 to 16, or its head is above the length.
     Window,
+    // A second run that is shorter than the first.
+    ShortRun,
 }
 
 impl Refusal {
@@ -68,6 +70,7 @@ impl Refusal {
             Refusal::Rest => 16,
             Refusal::RowSum => 17,
             Refusal::Window => 18,
+            Refusal::ShortRun => 25,
         }
     }
 

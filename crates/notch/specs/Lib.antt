@@ -1,0 +1,6 @@
+pub mod Biquad
+pub mod NotchFilter
+pub mod Notches
+pub mod NotchesLaws
+pub mod WrittenRun
+pub mod Cuts
