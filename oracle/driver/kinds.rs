@@ -21,10 +21,19 @@
 //! | w | a range to wrap into |
 //! | m | a motor's limits: the low and the high one |
 //! | L | the lane |
+//! | f | a notch: its centre, its bandwidth, its sampling time and its t, mostly the Rust's own tangent |
+//! | k | a new centre for the last of kind f, and its t |
+//! | v | a new bandwidth for it |
+//! | q | a biquad: its a and its b |
+//! | u | a room and a run of samples |
+//! | U | a part of the last of kind u, from where the part before it ended, and its room |
+//! | V | the rest of it |
+//! | = | the operands of the episode's first line again |
 
+use crate::notches::{biquad, Notches};
 use crate::random::Random;
 use crate::ranges::{refused_bounds, steps};
-use crate::values::{dyadic, float, nan};
+use crate::values::{dyadic, float, odd_or};
 use std::f32::consts::PI;
 
 /// What the operands of one state have to do with those before them.
@@ -34,16 +43,24 @@ pub struct Memory {
     range: (f32, f32),
     /// What signals stay about.
     level: f32,
+    notches: Notches,
+    /// The operands of the episode's first line.
+    first: Vec<u32>,
 }
 
 impl Memory {
     pub fn new(lane: u32) -> Self {
-        Memory { lane, range: (-1.0, 1.0), level: 0.0 }
+        Memory { lane, range: (-1.0, 1.0), level: 0.0, notches: Notches::new(), first: Vec::new() }
     }
 
     /// All but the lane, for a new episode.
     pub fn forget(&mut self) {
         *self = Memory::new(self.lane);
+    }
+
+    /// What kind = will be.
+    pub fn keep_first(&mut self, operands: &[u32]) {
+        self.first = operands.to_vec();
     }
 
     pub fn ordinary(&mut self, r: &mut Random, kind: u8, to: &mut Vec<u32>) {
@@ -62,6 +79,7 @@ impl Memory {
             b'c' => r.unit() * 0.75 + 0.5,
             b'y' => self.about_level(r),
             b'e' => self.error(r),
+            b'v' => self.notches.bandwidth(r),
             b'b' => return to.push(r.below(2) as u32),
             b'n' => return to.push(1 + r.below(16) as u32),
             b'h' => {
@@ -74,6 +92,13 @@ impl Memory {
             }
             b'm' => return to.extend([r.unit().abs() / 4.0, 1.0 - r.unit().abs() / 4.0].map(f32::to_bits)),
             b'L' => return to.push(self.lane),
+            b'f' => return to.extend(self.notches.notch(r, false)),
+            b'k' => return to.extend(self.notches.center_and_t(r, false)),
+            b'q' => return to.extend(biquad(r, false)),
+            b'u' => return self.notches.run(r, false, to),
+            b'U' => return self.notches.part(r, to),
+            b'V' => return self.notches.rest(r, to),
+            b'=' => return to.extend(&self.first),
             _ => panic!("no kind {}", kind as char),
         };
         to.push(x.to_bits());
@@ -81,7 +106,7 @@ impl Memory {
 
     pub fn odd(&mut self, r: &mut Random, kind: u8, to: &mut Vec<u32>) {
         match kind {
-            b'b' => self.ordinary(r, kind, to),
+            b'b' | b'U' | b'V' | b'=' => self.ordinary(r, kind, to),
             b'n' => to.push(r.one_of(&[0, 1, 16, 17, 18, 0x8000_0001, 0xffff_ffff])),
             b'h' => {
                 let length: u32 = r.one_of(&[0, 1, 2, 15, 16, 17, 0x1_0001, 0xffff_ffff]);
@@ -95,12 +120,12 @@ impl Memory {
                 self.range(kind, range, to);
             }
             b'L' => to.push(r.one_of(&[8, 9, 255, 0x0100_0000, 0xffff_ffff])),
-            _ if r.once_in(3) => to.push(nan(r)),
-            _ if r.once_in(2) => {
-                to.push(r.one_of(&[0.0, -0.0, 1.0, -1.0, 2.0, f32::INFINITY, f32::NEG_INFINITY]).to_bits())
-            }
-            b's' => to.push(beside(r, 1.0).to_bits()),
-            _ => to.push(float(r)),
+            b'f' => to.extend(self.notches.notch(r, true)),
+            b'k' => to.extend(self.notches.center_and_t(r, true)),
+            b'q' => to.extend(biquad(r, true)),
+            b'u' => self.notches.run(r, true, to),
+            b's' => to.push(odd_or(r, |r| beside(r, 1.0).to_bits())),
+            _ => to.push(odd_or(r, float)),
         }
     }
 

@@ -45,7 +45,8 @@ impl Episode {
     }
 
     fn line(&mut self, r: &mut Random, to: &mut Line) {
-        if self.beginning.is_empty() && self.left == 0 {
+        let first = self.beginning.is_empty() && self.left == 0;
+        if first {
             self.begin(r);
         }
         let (call, kinds) = self.next_shape(r);
@@ -57,6 +58,9 @@ impl Episode {
             } else {
                 self.memory.ordinary(r, kind, &mut self.operands);
             }
+        }
+        if first {
+            self.memory.keep_first(&self.operands);
         }
         to.call(&format!("{}.{call}", self.life.name), &self.operands);
     }

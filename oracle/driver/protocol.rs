@@ -10,6 +10,9 @@ use std::sync::Once;
 /// A line of more bytes than this is malformed.
 pub const LONGEST: usize = 2_000;
 
+/// The most samples of a run, and the most room for their answers.
+pub const LONGEST_RUN: usize = 64;
+
 /// The bytes of an operand or a result: a space and eight digits.
 const WORD: usize = 9;
 
@@ -90,8 +93,9 @@ impl Answer<'_> {
 /// One call of a part whose states are an `S`.
 pub struct Call<S: 'static> {
     pub name: &'static str,
-    /// A letter an operand: f a float, n a number, b a bool, l a lane that there is. A final `*` is any number more of
-    /// the letter before it, a final `?` says that the operand before it may be left out.
+    /// A letter an operand: f a float, n a number, b a bool, l a lane that there is, r a room. A final `*` is any number
+    /// more of the letter before it, a final `~` says that there are as many of it as a run may have, or fewer, or none,
+    /// a final `?` that the operand before it may be left out.
     pub form: &'static str,
     pub run: fn(&mut S, &Operands, &mut Answer),
 }
@@ -225,6 +229,7 @@ fn operand(word: &[u8]) -> Option<u32> {
 fn fits(form: &[u8], operands: &[u32]) -> bool {
     let (letters, least, most) = match form {
         [letters @ .., b'*'] => (letters, letters.len() - 1, usize::MAX),
+        [letters @ .., b'~'] => (letters, letters.len() - 1, letters.len() - 1 + LONGEST_RUN),
         [letters @ .., b'?'] => (letters, letters.len() - 1, letters.len()),
         letters => (letters, letters.len(), letters.len()),
     };
@@ -237,6 +242,7 @@ fn largest(letter: u8) -> u32 {
     match letter {
         b'b' => 1,
         b'l' => 7,
+        b'r' => LONGEST_RUN as u32,
         _ => u32::MAX,
     }
 }

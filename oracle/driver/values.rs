@@ -56,6 +56,17 @@ pub fn near(r: &mut Random, x: u32) -> u32 {
     }
 }
 
+/// Often a NaN, a small whole number or an infinity, else what `other` makes.
+pub fn odd_or(r: &mut Random, other: impl FnOnce(&mut Random) -> u32) -> u32 {
+    if r.once_in(3) {
+        nan(r)
+    } else if r.once_in(2) {
+        r.one_of(&[0.0, -0.0, 1.0, -1.0, 2.0, f32::INFINITY, f32::NEG_INFINITY]).to_bits()
+    } else {
+        other(r)
+    }
+}
+
 /// A multiple of an eighth from -16 to 16.
 pub fn dyadic(r: &mut Random) -> u32 {
     ((r.below(257) as f32 - 128.0) / 8.0).to_bits()

@@ -30,6 +30,18 @@ pub fn all_zero<T: Fields>() -> T {
     T::read(&mut std::iter::repeat(0))
 }
 
+/// The words of a value.
+pub fn words(of: &impl Fields) -> Vec<u32> {
+    let mut words = Vec::new();
+    of.write(&mut |n| words.push(n));
+    words
+}
+
+/// The value of the same words in another type: the same one with numbers of another kind.
+pub fn recast<T: Fields>(of: &impl Fields) -> T {
+    T::read(&mut words(of).into_iter())
+}
+
 impl Fields for f32 {
     fn read(words: &mut dyn Iterator<Item = u32>) -> Self {
         f32::from_bits(written(f32::from_bits(u32::read(words))))

@@ -11,6 +11,9 @@ fields!([] IntegratingHighpass<f32> { tau dt alpha y_prev });
 fields!([] IntegratingComplementary<f32> { tau dt alpha y_prev });
 fields!([] SlewRate<f32> { rate_limit signal dt });
 fields!([] Linear<f32> { factor offset });
+fields!([T: Float + Fields] BiquadParams<T> { a b });
+fields!([T: Float + Fields] BiquadFilter<T> { params x y });
+fields!([T: Float + Fields] NotchFilter<T> { fc fb dt biquad });
 
 impl State for Lowpass<f32> {}
 impl State for NthOrderLowpass<f32, 2> {}
@@ -126,6 +129,36 @@ impl Window {
         Window { length: N as u32, head: average.head as u32, slots }
     }
 }
+
+/// A notch and the t that stands for its tangent.
+pub struct Notch {
+    pub filter: NotchFilter<f32>,
+    pub t: f32,
+}
+
+/// The t comes after the sampling time, among the Rust's own fields.
+impl Fields for Notch {
+    fn read(words: &mut dyn Iterator<Item = u32>) -> Self {
+        let [fc, fb, dt, t] = Fields::read(words);
+        Notch { filter: NotchFilter { fc, fb, dt, biquad: Fields::read(words) }, t }
+    }
+    fn write(&self, to: &mut dyn FnMut(u32)) {
+        let NotchFilter { fc, fb, dt, biquad } = self.filter;
+        [fc, fb, dt, self.t].write(to);
+        biquad.write(to);
+    }
+}
+
+/// The form of these fields in the protocol.
+#[macro_export]
+macro_rules! notch_form {
+    () => {
+        "ffffffffffffffff"
+    };
+}
+
+impl State for Notch {}
+impl State for [Notch; 3] {}
 
 /// The three numbers of the default; its kind is Actual.
 pub fn default_expo_rates() -> [f32; 3] {

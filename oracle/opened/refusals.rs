@@ -48,3 +48,8 @@ pub fn row_sum(sum: f32) -> u32 {
 pub fn window(length: u32, head: u32) -> u32 {
     unless((1..=16).contains(&length) && head <= length, 18)
 }
+
+/// Document 02's own: of a run of so many samples, and the length of the run that their answers are written to.
+pub fn room(samples: usize, room: usize) -> u32 {
+    unless(room >= samples, 25)
+}

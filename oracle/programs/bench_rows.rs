@@ -1,10 +1,12 @@
 //! The time of one lane's update in rows of 1, 2, 4 and 8 lanes: the Rust's array of controllers, and the project's rows; of eight lanes also one
 //! call of the bank an update.
 
+mod flight;
 mod timing;
 
+use flight::{cells, SETTINGS};
 use holsatus::filters::rate_pid::RatePid;
-use timing::{call, compare};
+use timing::{call, compare, Run};
 
 extern "C" {
     fn plumradek_rows_1(s: *const f32, ns: usize, cells: *const f32, n: usize, out: *mut f32, no: usize);
@@ -25,16 +27,20 @@ fn rust<const LANES: usize>(s: &[f32], cells: &[f32], out: &mut [f32]) {
 }
 
 fn main() {
-    println!("1 lane");
-    compare(&[("Rust", rust::<1>), ("by rows", |s, cells, out| call(plumradek_rows_1, s, cells, out))]);
-    println!("2 lanes");
-    compare(&[("Rust", rust::<2>), ("by rows", |s, cells, out| call(plumradek_rows_2, s, cells, out))]);
-    println!("4 lanes");
-    compare(&[("Rust", rust::<4>), ("by rows", |s, cells, out| call(plumradek_rows_4, s, cells, out))]);
-    println!("8 lanes");
-    compare(&[
-        ("Rust", rust::<8>),
-        ("by rows", |s, cells, out| call(plumradek_rows_8, s, cells, out)),
-        ("by calls", |s, cells, out| call(plumradek_calls, s, cells, out)),
-    ]);
+    let cells = cells();
+    let lanes = |heading, runs: &[(&str, Run)]| {
+        println!("{heading}");
+        compare(&SETTINGS, &cells, runs);
+    };
+    lanes("1 lane", &[("Rust", rust::<1>), ("by rows", |s, cells, out| call(plumradek_rows_1, s, cells, out))]);
+    lanes("2 lanes", &[("Rust", rust::<2>), ("by rows", |s, cells, out| call(plumradek_rows_2, s, cells, out))]);
+    lanes("4 lanes", &[("Rust", rust::<4>), ("by rows", |s, cells, out| call(plumradek_rows_4, s, cells, out))]);
+    lanes(
+        "8 lanes",
+        &[
+            ("Rust", rust::<8>),
+            ("by rows", |s, cells, out| call(plumradek_rows_8, s, cells, out)),
+            ("by calls", |s, cells, out| call(plumradek_calls, s, cells, out)),
+        ],
+    );
 }

@@ -1,9 +1,11 @@
 //! The time of one update of a rate controller: the Rust's, and that of the project's libraries by value and in place.
 
+mod flight;
 mod timing;
 
+use flight::{cells, SETTINGS};
 use holsatus::filters::rate_pid::RatePid;
-use timing::{call, compare};
+use timing::{call, compare, Run};
 
 extern "C" {
     fn plumradek_updates(s: *const f32, ns: usize, cells: *const f32, n: usize, out: *mut f32, no: usize);
@@ -19,9 +21,10 @@ fn rust(s: &[f32], cells: &[f32], out: &mut [f32]) {
 }
 
 fn main() {
-    compare(&[
+    let runs: [(&str, Run); 3] = [
         ("Rust", rust),
         ("by value", |s, cells, out| call(plumradek_updates, s, cells, out)),
         ("in place", |s, cells, out| call(plumradek_updates_in_place, s, cells, out)),
-    ]);
+    ];
+    compare(&SETTINGS, &cells(), &runs);
 }

@@ -1,4 +1,4 @@
-//! Runs of updates on the same cells, timed in turn. Their answers must be the same numbers.
+//! Runs of updates on the same settings and cells, timed in turn. Their answers must be the same numbers.
 
 use std::hint::black_box;
 use std::process::exit;
@@ -15,30 +15,27 @@ pub fn call(linked: Linked, s: &[f32], cells: &[f32], out: &mut [f32]) {
     unsafe { linked(s.as_ptr(), s.len(), cells.as_ptr(), cells.len(), out.as_mut_ptr(), out.len()) }
 }
 
-const UPDATES: usize = 4096;
+/// So many updates are made in a run.
+pub const UPDATES: usize = 4096;
 const TURNS: usize = 2000;
-const SETTINGS: [f32; 5] = [0.3, 0.5, 0.02, 0.01, 0.004];
 
-/// A flight-like signal from a small generator; now and then out of the calm range, so that both ways of the integral are taken.
-fn cells() -> Vec<f32> {
+/// Numbers from -0.5 to 0.5 from a small generator, always the same.
+pub fn noise() -> impl FnMut() -> f32 {
     let mut seed = 1u32;
-    let cell = |i| {
+    move || {
         seed = seed.wrapping_mul(1664525).wrapping_add(1013904223);
-        let noise = (seed >> 8) as f32 / 16777216.0 - 0.5;
-        (i as f32 / 900.0).sin() * 1.05 + noise * 0.1
-    };
-    (0..UPDATES * 3).map(cell).collect()
+        (seed >> 8) as f32 / 16777216.0 - 0.5
+    }
 }
 
-/// The first run is what the others are measured by.
-pub fn compare(runs: &[(&str, Run)]) {
-    let cells = cells();
+/// The cells are those of all updates. The first run is what the others are measured by.
+pub fn compare(settings: &[f32], cells: &[f32], runs: &[(&str, Run)]) {
     let mut outs = vec![vec![0.0f32; UPDATES]; runs.len()];
     let mut times: Vec<Vec<f64>> = vec![Vec::new(); runs.len()];
     for _ in 0..TURNS {
         for (k, (_, run)) in runs.iter().enumerate() {
             let start = Instant::now();
-            run(black_box(&SETTINGS), black_box(&cells), black_box(&mut outs[k]));
+            run(black_box(settings), black_box(cells), black_box(&mut outs[k]));
             times[k].push(start.elapsed().as_nanos() as f64 / UPDATES as f64);
         }
     }

@@ -6,7 +6,7 @@ use crate::check::same;
 use crate::counted::{counting_outside, Counted, Stopped, MOST_STEPS};
 use crate::protocol::{Answer, Call, Calls, Operands};
 use crate::states::{by_hand, call, call_checked, construct, construct_checked, show, table};
-use holsatus::fields::{Fields, State};
+use holsatus::fields::{recast, State};
 use holsatus::filters::angle_pid::{AntiWindup, Pid};
 use holsatus::refusals;
 pub use lines::lines;
@@ -80,7 +80,7 @@ fn update(pid: &mut Pid<f32>, x: &Operands, to: &mut Answer) {
         return;
     }
     let (error, ts) = (x.float(0), x.optional_float(1));
-    let mut counted = recast(pid);
+    let mut counted: Pid<Counted> = recast(pid);
     // The error is the only number outside of the controller that is changed in place.
     match counting_outside(MOST_STEPS, &mut counted, |p| run(p, Counted(error), ts.map(Counted))) {
         Ok((Counted(y), steps)) => {
@@ -92,13 +92,6 @@ fn update(pid: &mut Pid<f32>, x: &Operands, to: &mut Answer) {
         }
         Err(Stopped::Panic) => panic!("the Rust's update does not panic"),
     }
-}
-
-/// The same controller of the number type that counts.
-fn recast(pid: &Pid<f32>) -> Pid<Counted> {
-    let mut words = Vec::new();
-    pid.write(&mut |n| words.push(n));
-    Pid::read(&mut words.into_iter())
 }
 
 fn run<F: Float + AddAssign + SubAssign>(pid: &mut Pid<F>, error: F, ts: Option<F>) -> F {

@@ -31,6 +31,7 @@ parts! {
     motor_lin
     statistics
     airframe
+    notch
     angle_pid
     rate_pid
     bank

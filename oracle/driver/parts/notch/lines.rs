@@ -1,0 +1,43 @@
+//! Lines on the notch and on three in a row.
+
+use crate::generator::Maker;
+use crate::life::{lives, Life};
+
+const NOTCH: Life = Life {
+    name: "notch",
+    begin: &[&[("new", "f")], &[("new", "f")], &[("state", "fqxxxxxx")]],
+    often: &[("update", "x")],
+    seldom: &[("set_freq_center", "k"), ("set_freq_bandwidth", "v"), ("show", "")],
+};
+
+/// The kinds of the fields of three.
+const THREE: &str = "fqxxxxxxfqxxxxxxfqxxxxxx";
+
+/// The last two beginnings show that a cut cannot be seen: a run whole, then from the same state again in parts.
+const NOTCHES: Life = Life {
+    name: "notches",
+    begin: &[
+        &[("new", "fff")],
+        &[("new", "fff")],
+        &[("state", THREE)],
+        &[("state", THREE), ("run", "u"), ("show", ""), ("state", "="), ("run", "U"), ("run", "V"), ("show", "")],
+        &[
+            ("state", THREE),
+            ("run", "u"),
+            ("show", ""),
+            ("state", "="),
+            ("run", "U"),
+            ("run", "U"),
+            ("run", "U"),
+            ("run", "U"),
+            ("run", "V"),
+            ("show", ""),
+        ],
+    ],
+    often: &[("run", "u")],
+    seldom: &[("show", "")],
+};
+
+pub fn lines() -> Box<Maker> {
+    lives(&[&NOTCH, &NOTCHES])
+}
