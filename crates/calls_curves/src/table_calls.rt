@@ -11,7 +11,7 @@ pub(crate) fn answer_call(ops: &[u32], res: &mut [u32]) -> CallAnswer {
 
 // The operands after the first are the run of points.
 fn look(ops: &[u32], res: &mut [u32], run: &mut [f32]) -> CallAnswer {
-    let n = points(ops, run);
+    let n = calls_words::numbers_after(ops, run);
     if run.len() < n {
         return CallAnswer::NotOurs;
     }
@@ -19,20 +19,4 @@ fn look(ops: &[u32], res: &mut [u32], run: &mut [f32]) -> CallAnswer {
     let refusal = l.refusal;
     calls_words::put_number(res, 0, l.y);
     calls_words::answered(refusal, 1)
-}
-
-// Puts the points into the run, and answers how many numbers they are.
-fn points(ops: &[u32], run: &mut [f32]) -> usize {
-    let mut i = 1;
-    while i < ops.len() {
-        put(run, i - 1, calls_words::number(ops, i));
-        i += 1;
-    }
-    i - 1
-}
-
-fn put(run: &mut [f32], i: usize, x: f32) {
-    if i < run.len() {
-        run[i] = x;
-    }
 }

@@ -110,6 +110,31 @@ pub fn put_slots(w: &mut [u32], at: usize, slots: [f32; 16]) {
     }
 }
 
+// Puts the operands after the first into a run, as numbers, and answers how many they are.
+pub fn numbers_after(ops: &[u32], run: &mut [f32]) -> usize {
+    let mut i = 1;
+    while i < ops.len() {
+        put(run, i - 1, number(ops, i));
+        i += 1;
+    }
+    i - 1
+}
+
+fn put(run: &mut [f32], i: usize, x: f32) {
+    if i < run.len() {
+        run[i] = x;
+    }
+}
+
+// Puts the numbers of a run into the results.
+pub fn put_numbers(res: &mut [u32], run: &[f32]) {
+    let mut i = 0;
+    while i < run.len() {
+        put_number(res, i, run[i]);
+        i += 1;
+    }
+}
+
 // The place i after another. No run of words is as long as that a place could be lost by this.
 fn place(at: usize, i: usize) -> usize {
     at % 4096 + i % 4096

@@ -8,6 +8,9 @@ pub const RATE_PID_WORDS: usize = TERMS_WORDS + 27;
 
 pub const LANE_WORDS: usize = RATE_PID_WORDS + 1;
 
+// How many a notch has: four settings, six coefficients, six samples.
+pub const NOTCH_WORDS: usize = 16;
+
 // Where each state's words begin: after those of the state before it.
 pub const LOWPASS: usize = 0;
 
@@ -36,5 +39,9 @@ pub const RATE_PID: usize = PID + 22;
 // Eight lanes.
 pub const BANK: usize = RATE_PID + RATE_PID_WORDS;
 
+pub const NOTCH: usize = BANK + 8 * LANE_WORDS;
+
+pub const NOTCHES: usize = NOTCH + NOTCH_WORDS;
+
 // All of them together.
-pub const ALL: usize = BANK + 8 * LANE_WORDS;
+pub const ALL: usize = NOTCHES + 3 * NOTCH_WORDS;

@@ -4,8 +4,8 @@ use borrow.Author.Needs.{needs}
 use Rattle.calls_curves.proofs.table_calls.look.Statement.{statement}
 use Rattle.calls_curves.proofs.table_calls.look.Tie as tie
 
-points-requires : tie.Need-points-requires
-points-requires c κs = search needs
+numbers-after-requires : tie.Need-numbers-after-requires
+numbers-after-requires c κs = search needs
 
 same-length : tie.Need-same-length
 same-length c = search needs
@@ -44,7 +44,7 @@ pub look-spec : {M : Type 1} → statement M
 look-spec =
     tie.close
     (tie.spec
-    points-requires
+    numbers-after-requires
     same-length
     returns
     slice-reshare-prefix-get

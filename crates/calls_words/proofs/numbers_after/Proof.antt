@@ -3,8 +3,8 @@ use Prim.Native.Nat.{_≤_, _-_, _+_}
 use native.Mathlib.Omega.{arith}
 use lib.ListN.{length}
 use borrow.Author.Needs.{needs}
-use Rattle.calls_curves.proofs.table_calls.points.Statement.{statement}
-use Rattle.calls_curves.proofs.table_calls.points.Tie as tie
+use Rattle.calls_words.proofs.numbers_after.Statement.{statement}
+use Rattle.calls_words.proofs.numbers_after.Tie as tie
 
 abbrev Inv-loop : tie.InvT-loop
 Inv-loop ops run₀ i₀ run i = (1 ≤ i) × (i ≤ 1 + length ops) × (length run ≡ length run₀)
@@ -42,8 +42,8 @@ same-length c = omega arith
 returns : tie.Need-returns Inv-loop μ-loop
 returns c = tt
 
-pub points-spec : {M : Type 1} → statement M
-points-spec =
+pub numbers-after-spec : {M : Type 1} → statement M
+numbers-after-spec =
     tie.close
     (tie.spec
     Inv-loop
