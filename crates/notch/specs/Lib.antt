@@ -1,5 +1,6 @@
 pub mod Biquad
 pub mod NotchFilter
+pub mod NotchFilterLaws
 pub mod Notches
 pub mod NotchesLaws
 pub mod WrittenRun
