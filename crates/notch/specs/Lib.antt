@@ -3,5 +3,4 @@ pub mod NotchFilter
 pub mod NotchFilterLaws
 pub mod Notches
 pub mod NotchesLaws
-pub mod WrittenRun
 pub mod Cuts

@@ -1,4 +1,5 @@
-// The refusals of document 01, each named once. An answer that can be refused holds one of these beside its numbers.
+// The refusals of document 01 and of the change requests, each named once. An answer that can be refused holds one of these beside its
+// numbers.
 ghost use mathlib.Core.Path.{_≡_};
 ghost use Rattle.refusal.specs.Refusal.{numberOf, passes};
 
@@ -46,7 +47,7 @@ pub enum Refusal {
 }
 
 impl Refusal {
-    // Document 01's number, 0 where nothing is refused.
+    // The refusal's number in document 01's table or its change request, 0 where nothing is refused.
     pub fn number(self) -> u32
         ensures { λ r. ⌜ r ≡ numberOf self ⌝ }
     {

@@ -4,7 +4,7 @@ use native.Mathlib.Omega.{arith}
 use lib.ListN.{length}
 use borrow.Author.Needs.{needs}
 use Rattle.notch.specs.declared.notch_filter.NotchFiltered.{NotchFiltered}
-use Rattle.notch.specs.WrittenRun.{Writing, write-start, write-turn, write-all}
+use Rattle.lanes.specs.WrittenRun.{Writing, write-start, write-turn, write-all}
 use Rattle.bench_notch.specs.OneNotch.{notchMachine}
 use Rattle.bench_notch.proofs.through.Statement.{statement}
 use Rattle.bench_notch.proofs.through.Tie as tie
