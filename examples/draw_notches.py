@@ -23,8 +23,9 @@ def words(numbers):
 
 
 def tangent(centre):
-    """The t of a notch, which its caller works out: the tangent of pi·fc·dt, as f32."""
-    return np.tan(np.float32(np.pi * centre * DT))
+    """The t of a notch, which its caller works out: f32's tangent of fc·2·pi·dt/2, in f32 and in that order, as the Rust does."""
+    f = np.float32
+    return np.tan(f(centre) * f(2) * f(np.pi) * f(DT) / f(2))
 
 
 def notched(samples, most):

@@ -21,7 +21,7 @@
 //! | w | a range to wrap into |
 //! | m | a motor's limits: the low and the high one |
 //! | L | the lane |
-//! | f | a notch: its centre, its bandwidth, its sampling time and its t, mostly the Rust's own tangent |
+//! | f | a notch: its centre, its bandwidth, its sampling time and its t, mostly its tangent |
 //! | k | a new centre for the last of kind f, and its t |
 //! | v | a new bandwidth for it |
 //! | q | a biquad: its a and its b |
@@ -30,7 +30,7 @@
 //! | V | the rest of it |
 //! | = | the operands of the episode's first line again |
 
-use crate::notches::{biquad, Notches};
+use crate::notches::{biquad, NotchOperands};
 use crate::random::Random;
 use crate::ranges::{refused_bounds, steps};
 use crate::values::{dyadic, float, odd_or};
@@ -43,14 +43,14 @@ pub struct Memory {
     range: (f32, f32),
     /// What signals stay about.
     level: f32,
-    notches: Notches,
+    notches: NotchOperands,
     /// The operands of the episode's first line.
     first: Vec<u32>,
 }
 
 impl Memory {
     pub fn new(lane: u32) -> Self {
-        Memory { lane, range: (-1.0, 1.0), level: 0.0, notches: Notches::new(), first: Vec::new() }
+        Memory { lane, range: (-1.0, 1.0), level: 0.0, notches: NotchOperands::new(), first: Vec::new() }
     }
 
     /// All but the lane, for a new episode.

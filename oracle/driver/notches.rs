@@ -6,16 +6,16 @@ use crate::told::angle;
 use crate::values::{float, odd_or};
 
 /// What the operands of a notch, or of some in a row, have to do with those before them.
-pub struct Notches {
+pub struct NotchOperands {
     /// The last notch's sampling time.
     dt: f32,
     /// What of the last run has not been given again.
     left: Vec<u32>,
 }
 
-impl Notches {
+impl NotchOperands {
     pub fn new() -> Self {
-        Notches { dt: 1.0, left: Vec::new() }
+        NotchOperands { dt: 1.0, left: Vec::new() }
     }
 
     /// Centre, bandwidth, sampling time and t, some of them odd if so wanted.
@@ -45,7 +45,7 @@ impl Notches {
         (0.5 + r.unit() * 0.45) / 2.0 / self.dt
     }
 
-    /// Mostly the Rust's own tangent of that centre; another that is not odd leaves the filter as stable.
+    /// Mostly the Rust's own tangent of that centre; another that is not odd leaves the filter just as stable.
     fn t(&self, r: &mut Random, odd: bool, fc: f32) -> f32 {
         if odd && r.once_in(2) {
             f32::from_bits(odd_or(r, float))
@@ -58,7 +58,7 @@ impl Notches {
 
     /// A room and samples.
     pub fn run(&mut self, r: &mut Random, odd: bool, to: &mut Vec<u32>) {
-        let length = if odd && r.once_in(16) { LONGEST_RUN + 1 } else { length(r) };
+        let length = if odd && r.once_in(16) { LONGEST_RUN + 1 } else { how_many(r) };
         to.push(if odd && r.once_in(8) { no_room(r) } else { room(r, length) as u32 });
         self.left.clear();
         for _ in 0..length {
@@ -86,7 +86,7 @@ impl Notches {
     }
 }
 
-/// The f32 next to the tangent. Mostly it is f32's own too, which differs in the last place from one C library to the
+/// The f32 nearest to the tangent. Mostly it is f32's own too, which differs in the last place from one C library to the
 /// other: the lines of a seed must not.
 fn tangent(x: f32) -> f32 {
     f64::from(x).tan() as f32
@@ -107,7 +107,7 @@ fn some_odd<const N: usize>(r: &mut Random, odd: bool, numbers: [f32; N]) -> [f3
 }
 
 /// How many samples: often few, at times none or as many as there can be.
-fn length(r: &mut Random) -> usize {
+fn how_many(r: &mut Random) -> usize {
     match r.below(8) {
         0 => r.below(2),
         1 => LONGEST_RUN - r.below(2),
@@ -127,7 +127,7 @@ fn room(r: &mut Random, samples: usize) -> usize {
 }
 
 fn longer(r: &mut Random, samples: usize) -> usize {
-    samples + r.below(LONGEST_RUN + 1 - samples)
+    samples + r.below((LONGEST_RUN + 1).saturating_sub(samples).max(1))
 }
 
 /// More than any room.

@@ -12,22 +12,22 @@ pub struct Told(pub f32);
 
 thread_local! {
     /// What the tangent will be; nothing once it has been asked for.
-    static TOLD: Cell<Option<f32>> = const { Cell::new(None) };
+    static NEXT_TANGENT: Cell<Option<f32>> = const { Cell::new(None) };
     /// The number of which it was asked for last.
     static ANGLE: Cell<f32> = const { Cell::new(0.0) };
 }
 
 /// The value of `run`, which asks for one tangent and is told t, and the number of which it asks.
-pub fn telling<T>(t: f32, run: impl FnOnce() -> T) -> (T, f32) {
-    TOLD.set(Some(t));
+pub fn with_tangent<T>(t: f32, run: impl FnOnce() -> T) -> (T, f32) {
+    NEXT_TANGENT.set(Some(t));
     let value = run();
-    assert!(TOLD.take().is_none(), "the Rust asks for no tangent");
+    assert!(NEXT_TANGENT.take().is_none(), "the Rust asks for no tangent");
     (value, ANGLE.get())
 }
 
 /// The number whose tangent the Rust works out for a notch with that centre and sampling time.
 pub fn angle(fc: f32, dt: f32) -> f32 {
-    telling(0.0, || NotchFilter::new(Told(fc), Told(0.0), Told(dt))).1
+    with_tangent(0.0, || NotchFilter::new(Told(fc), Told(0.0), Told(dt))).1
 }
 
 impl Fields for Told {
@@ -48,7 +48,7 @@ impl Float for Told {
     }
     fn tan(self) -> Self {
         ANGLE.set(self.0);
-        Told(TOLD.take().expect("the Rust asks for a tangent that it was not told"))
+        Told(NEXT_TANGENT.take().expect("the Rust asks for a tangent that it was not told"))
     }
 }
 

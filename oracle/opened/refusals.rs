@@ -1,5 +1,5 @@
-//! Rows of document 01's table of refusals, each as a function of the numbers that it judges: its number, or 0.
-//! The same rows judge a call's operands and the numbers of a state built by hand.
+//! Rows of document 01's table of refusals, and document 02's 25, each as a function of the numbers that it judges: its
+//! number, or 0. The same rows judge a call's operands and the numbers of a state built by hand.
 
 /// The first refusal of some that are checked in order.
 pub fn first<const N: usize>(checks: [u32; N]) -> u32 {

@@ -28,7 +28,7 @@ pub fn noise() -> impl FnMut() -> f32 {
     }
 }
 
-/// The cells are those of all updates. The first run is what the others are measured by.
+/// `cells` has what all `UPDATES` updates of a run read. The first run is what the others are measured by.
 pub fn compare(settings: &[f32], cells: &[f32], runs: &[(&str, Run)]) {
     let mut outs = vec![vec![0.0f32; UPDATES]; runs.len()];
     let mut times: Vec<Vec<f64>> = vec![Vec::new(); runs.len()];

@@ -2,14 +2,14 @@
 use mathlib.Core.Bool.{cond}
 use mathlib.Core.List.{List}
 use Prim.Native.Nat.{ℕ, _+_}
-use lib.Dec.{leb}
 use lib.Ieee.{Float, nan}
 use lib.ListN.{length, getD}
 use lib.Seq.{sets}
-use Rattle.lanes.specs.Runs.{Machine, answers}
+use Rattle.lanes.specs.Runs.{answers}
 use Rattle.notch.specs.declared.notch_filter.NotchFilter.{NotchFilter}
 use Rattle.notch.specs.declared.notches.Notches.{Notches}
-use Rattle.notch.specs.NotchFilter.{newNotchFilter, stepNotchFilter}
+use Rattle.notch.specs.NotchFilter.{newNotchFilter, notchMachine}
+use Rattle.notch.specs.Notches.{tooShort}
 
 -- of the four settings from a place on, NaN where one is missing
 unfoldable pub notchFrom : List Float → ℕ → NotchFilter
@@ -18,10 +18,6 @@ notchFrom s i = newNotchFilter (getD s i nan) (getD s (i + 1) nan) (getD s (i + 
 unfoldable pub notchesFrom : List Float → Notches
 notchesFrom s = record { first = notchFrom s 0; second = notchFrom s 4; third = notchFrom s 8 }
 
--- sample after sample
-abbrev pub notchMachine : Machine NotchFilter Float Float
-notchMachine = record { answer = λ s x. stepNotchFilter s x .y; next = λ s x. stepNotchFilter s x .filter }
-
--- what the second run then holds, where it has room for all samples
+-- what the second run then holds: nothing is written where it is too short
 unfoldable pub notchOut : List Float → List Float → List Float → List Float
-notchOut settings samples out = cond (leb (length samples) (length out)) (sets out 0 (answers notchMachine (notchFrom settings 0) samples)) out
+notchOut settings samples out = cond (tooShort (length out) samples) out (sets out 0 (answers notchMachine (notchFrom settings 0) samples))

@@ -4,8 +4,9 @@ ghost use Prim.Native.Nat.{_≤_};
 ghost use lib.ListN.{length};
 ghost use lib.Seq.{sets};
 ghost use Rattle.lanes.specs.Runs.{answers};
+ghost use Rattle.notch.specs.NotchFilter.{notchMachine};
 ghost use Rattle.notch.specs.Notches.{secondRun};
-ghost use Rattle.bench_notch.specs.OneNotch.{notchFrom, notchesFrom, notchMachine, notchOut};
+ghost use Rattle.bench_notch.specs.OneNotch.{notchFrom, notchesFrom, notchOut};
 use notch::NotchFilter;
 use notch::Notches;
 
@@ -55,9 +56,10 @@ fn through(notch: NotchFilter, samples: &[f32], out: &mut [f32])
 pub extern "C" fn plumradek_notch(settings: &[f32], samples: &[f32], out: &mut [f32])
     ensures { λ _. ⌜ now (out .exit) ≡ notchOut (now (settings .entry)) (now (samples .entry)) (now (out .entry)) ⌝ }
 {
-    if samples.len() <= out.len() {
-        through(notch_from(settings, 0), samples, out);
+    if out.len() < samples.len() {
+        return;
     }
+    through(notch_from(settings, 0), samples, out);
 }
 
 #[no_mangle]

@@ -87,9 +87,9 @@ pub(crate) fn answer_call(
         states::put_notch(res, 0, f);
         return CallAnswer::Given(0, places::NOTCH_WORDS);
     }
-    let t = on_notch(name, ops, f);
-    let filter = t.filter;
+    let made = on_notch(name, ops, f);
+    let filter = made.filter;
     states::put_notch(states, places::NOTCH, filter);
-    calls_words::put_number(res, 0, t.y);
-    t.answer
+    calls_words::put_number(res, 0, made.y);
+    made.answer
 }

@@ -59,11 +59,11 @@ fn answer_run(ops: &[u32], f: Notches, states: &mut [u32], res: &mut [u32]) -> C
         return CallAnswer::NotOurs;
     }
     let mut samples = [0.0f32; LONGEST_RUN];
-    let mut second = [42.0f32; LONGEST_RUN];
-    let t = run_in(ops, f, &mut samples, &mut second, res);
-    let notches = t.notches;
+    let mut out = [42.0f32; LONGEST_RUN];
+    let made = run_in(ops, f, &mut samples, &mut out, res);
+    let notches = made.notches;
     states::put_notches(states, places::NOTCHES, notches);
-    t.answer
+    made.answer
 }
 
 // The same with a place for the samples and one for the second run.
@@ -71,16 +71,16 @@ fn run_in(
     ops: &[u32],
     f: Notches,
     samples: &mut [f32],
-    second: &mut [f32],
+    out: &mut [f32],
     res: &mut [u32],
 ) -> RunAnswer {
     let n = calls_words::numbers_after(ops, samples);
     let room = calls_words::word(ops, 0) as usize;
-    if samples.len() < n || second.len() < room {
+    if samples.len() < n || out.len() < room {
         let answer = CallAnswer::NotOurs;
         return RunAnswer { answer, notches: f };
     }
-    let made = run_and_show(f, &samples[..n], &mut second[..room], res);
+    let made = run_and_show(f, &samples[..n], &mut out[..room], res);
     let refusal = made.refusal;
     let notches = made.notches;
     let answer = calls_words::answered(refusal, room);
@@ -88,8 +88,8 @@ fn run_in(
 }
 
 // The numbers of the second run are the results, as they stand after the call, refused or not.
-fn run_and_show(f: Notches, samples: &[f32], second: &mut [f32], res: &mut [u32]) -> NotchesRun {
-    let made = f.run(samples, second);
-    calls_words::put_numbers(res, second);
+fn run_and_show(f: Notches, samples: &[f32], out: &mut [f32], res: &mut [u32]) -> NotchesRun {
+    let made = f.run(samples, out);
+    calls_words::put_numbers(res, out);
     made
 }

@@ -32,7 +32,7 @@ behind l vs n e h =
     let m : 0 + length vs ≡ n = omega (arith, e) in
     rw (sets-eq vs l 0 (omega arith)) (drop-at vs (drop (0 + length vs) l) n e ∙ ap (λ (k : ℕ). drop k l) m)
 
--- one text and, written to what is behind it, another are both written at once
+-- a text, and then the rest of a list with a second text written to it: the list with both written
 pub sets-behind : {A : Type 0} (l vs ws : List A) (n : ℕ) → length vs ≡ n → n + length ws ≤ length l → vs ++ sets (drop n l) 0 ws ≡ sets l 0 (vs ++ ws)
 sets-behind l vs ws n e h =
     let part = sets-eq ws (drop n l) 0 (rw length-drop (omega arith)) in

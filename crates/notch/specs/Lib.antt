@@ -3,4 +3,5 @@ pub mod NotchFilter
 pub mod NotchFilterLaws
 pub mod Notches
 pub mod NotchesLaws
+pub mod InARow
 pub mod Cuts

@@ -1,6 +1,7 @@
 -- `NotchFilter`. Where the Rust works out (fc·2·pi·dt/2).tan(), the caller hands in its value t.
 use lib.Ieee.{Float, binary32, ofBits}
 use Rattle.float.specs.F32.{_+f_, _-f_, _*f_, _/f_}
+use Rattle.lanes.specs.Runs.{Machine}
 use Rattle.notch.specs.declared.biquad.BiquadParams.{BiquadParams}
 use Rattle.notch.specs.declared.notch_filter.NotchFilter.{NotchFilter}
 use Rattle.notch.specs.declared.notch_filter.NotchFiltered.{NotchFiltered}
@@ -45,3 +46,7 @@ unfoldable pub stepNotchFilter : NotchFilter → Float → NotchFiltered
 stepNotchFilter s input =
     let next = stepBiquad (s .biquad) input in
     record { y = next .y; filter = record { fc = s .fc; fb = s .fb; dt = s .dt; t = s .t; biquad = next .filter } }
+
+-- sample after sample
+abbrev pub notchMachine : Machine NotchFilter Float Float
+notchMachine = record { answer = λ s x. stepNotchFilter s x .y; next = λ s x. stepNotchFilter s x .filter }

@@ -1,5 +1,5 @@
-// The biquad: a filter over the last three samples in and out. The Rust's a[0] is a0 here, and so on: every place in its arrays is a
-// constant.
+// The biquad: a filter over the last three samples in and out. The Rust indexes its arrays by constants only, so its a[0] is a0 here,
+// and so on.
 ghost use mathlib.Core.Path.{_≡_};
 ghost use Rattle.notch.specs.Biquad.{newBiquad, withParams, stepBiquad};
 

@@ -20,7 +20,7 @@ pub struct NotchFiltered {
     pub filter: NotchFilter,
 }
 
-// The one place that makes the coefficients. fc is in none of them but through its t.
+// The one place that makes the coefficients. fc goes into them through its t only.
 fn calc_params(fb: f32, dt: f32, t: f32) -> BiquadParams
     ensures { λ r. ⌜ r ≡ calcParams fb dt t ⌝ }
 {

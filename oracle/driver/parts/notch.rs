@@ -5,7 +5,7 @@ mod lines;
 use crate::check::same_words;
 use crate::protocol::{written, Answer, Call, Calls, Operands};
 use crate::states::{by_hand, call, construct, show, table};
-use crate::told::{telling, Told};
+use crate::told::{with_tangent, Told};
 use holsatus::fields::recast;
 use holsatus::filters::{Notch, NotchFilter};
 use holsatus::{notch_form, refusals};
@@ -45,12 +45,12 @@ pub fn tables() -> Vec<Box<dyn Calls>> {
 }
 
 fn new([fc, fb, dt, t]: [f32; 4]) -> Notch {
-    told(t, || NotchFilter::new(Told(fc), Told(fb), Told(dt)), || NotchFilter::new(fc, fb, dt))
+    made_with(t, || NotchFilter::new(Told(fc), Told(fb), Told(dt)), || NotchFilter::new(fc, fb, dt))
 }
 
 fn set_freq_center(notch: &mut Notch, fc: f32, t: f32) {
     let filter = notch.filter;
-    *notch = told(t, || with_center(recast(&filter), Told(fc)), || with_center(filter, fc));
+    *notch = made_with(t, || with_center(recast(&filter), Told(fc)), || with_center(filter, fc));
 }
 
 fn with_center<F: Float>(mut filter: NotchFilter<F>, fc: F) -> NotchFilter<F> {
@@ -61,7 +61,7 @@ fn with_center<F: Float>(mut filter: NotchFilter<F>, fc: F) -> NotchFilter<F> {
 /// The tangent is the stored one.
 fn set_freq_bandwidth(notch: &mut Notch, fb: f32) {
     let Notch { filter, t } = *notch;
-    *notch = told(t, || with_bandwidth(recast(&filter), Told(fb)), || with_bandwidth(filter, fb));
+    *notch = made_with(t, || with_bandwidth(recast(&filter), Told(fb)), || with_bandwidth(filter, fb));
 }
 
 fn with_bandwidth<F: Float>(mut filter: NotchFilter<F>, fb: F) -> NotchFilter<F> {
@@ -70,8 +70,8 @@ fn with_bandwidth<F: Float>(mut filter: NotchFilter<F>, fb: F) -> NotchFilter<F>
 }
 
 /// What `run` makes where the tangent is t. Where that is the Rust's own, `plain`, the same on plain f32, is run too.
-fn told(t: f32, run: impl FnOnce() -> NotchFilter<Told>, plain: impl FnOnce() -> NotchFilter<f32>) -> Notch {
-    let (made, angle) = telling(t, run);
+fn made_with(t: f32, run: impl FnOnce() -> NotchFilter<Told>, plain: impl FnOnce() -> NotchFilter<f32>) -> Notch {
+    let (made, angle) = with_tangent(t, run);
     let filter = recast(&made);
     if written(t) == written(angle.tan()) {
         same_words("NotchFilter", &filter, &plain());

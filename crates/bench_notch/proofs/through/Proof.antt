@@ -5,7 +5,7 @@ use lib.ListN.{length}
 use borrow.Author.Needs.{needs}
 use Rattle.notch.specs.declared.notch_filter.NotchFiltered.{NotchFiltered}
 use Rattle.lanes.specs.WrittenRun.{Writing, write-start, write-turn, write-all}
-use Rattle.bench_notch.specs.OneNotch.{notchMachine}
+use Rattle.notch.specs.NotchFilter.{notchMachine}
 use Rattle.bench_notch.proofs.through.Statement.{statement}
 use Rattle.bench_notch.proofs.through.Tie as tie
 

@@ -13,7 +13,8 @@ const NOTCH: Life = Life {
 /// The kinds of the fields of three.
 const THREE: &str = "fqxxxxxxfqxxxxxxfqxxxxxx";
 
-/// The last two beginnings show that a cut cannot be seen: a run whole, then from the same state again in parts.
+/// The last two beginnings put a run through whole, then from the same state again in parts: each answer is held to the
+/// Rust's, which goes sample by sample.
 const NOTCHES: Life = Life {
     name: "notches",
     begin: &[
