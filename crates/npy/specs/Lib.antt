@@ -9,6 +9,8 @@ pub mod SpelledAccepted
 pub mod AcceptedSpelled
 pub mod Cell
 pub mod CellLaws
+pub mod ThousandthsLaws
+pub mod HoleLaws
 pub mod Lines
 pub mod LinesLaws
 pub mod PutLines
