@@ -1,4 +1,4 @@
-"""Whole replays timed: the Rust's program and ours on the same files in turn, to /dev/null."""
+"""Whole replays timed: the Rust's program and ours, and an earlier one of ours where it is named, on the same files in turn, to /dev/null."""
 
 import os
 import statistics
@@ -8,13 +8,13 @@ import time
 
 import numpy as np
 
-from cases import written
+from cases import HOLE, written
 
 TURNS = 7
 
 
-def make(path, lanes, kind, megabytes):
-    """A slow wave with noise, written in parts so that a large file needs little memory."""
+def make(path, lanes, kind, holes, megabytes):
+    """A slow wave with noise, written in parts so that a large file needs little memory. With holes, one cell in a thousand is one."""
     rows = megabytes * 1_000_000 // (lanes * 3 * np.dtype(kind).itemsize)
     settings = np.tile(np.array([[0.3, 0.5, 0.02, 0.01, 0.004]], dtype="<f4"), (lanes, 1))
     rng = np.random.default_rng(7)
@@ -25,7 +25,10 @@ def make(path, lanes, kind, megabytes):
             n = min(100_000, rows - first)
             at = np.arange(first * 3 * lanes, (first + n) * 3 * lanes, dtype="f8")
             wave = np.sin(at / 900) * 1.05 + (rng.random(at.size) - 0.5) * 0.1
-            to.write((wave.astype("<f4") if kind == "<f4" else np.round(wave * 1000).astype("<i2")).tobytes())
+            cells = wave.astype("<f4") if kind == "<f4" else np.round(wave * 1000).astype("<i2")
+            if holes:
+                cells[rng.random(at.size) < 0.001] = HOLE
+            to.write(cells.tobytes())
 
 
 def run(program, path):
@@ -36,18 +39,22 @@ def run(program, path):
 
 
 def main():
-    rust, ours, megabytes, folder = sys.argv[1:]
-    for kind in ("<f4", "<i2"):
+    rust, ours, megabytes, folder, *before = sys.argv[1:]
+    for kind, holes in (("<f4", False), ("<i2", False), ("<i2", True)):
         for lanes in (1, 8):
             path = f"{folder}/bench.npy.bin"
-            make(path, lanes, kind, int(megabytes))
-            times = {rust: [], ours: []}
+            make(path, lanes, kind, holes, int(megabytes))
+            times = {program: [] for program in (rust, *before, ours)}
             for _ in range(TURNS):
                 for program in times:
                     times[program].append(run(program, path))
             r, o = (statistics.median(times[p]) for p in (rust, ours))
             rate = int(megabytes) / 1000
-            print(f"{kind} {lanes} lanes: Rust {r:.3f} s ({rate / r:.2f} GB/s), ours {o:.3f} s ({rate / o:.2f} GB/s), {o / r:.2f} times the Rust's")
+            line = f"{kind}{' with holes' if holes else ''} {lanes} lanes: Rust {r:.3f} s ({rate / r:.2f} GB/s), ours {o:.3f} s ({rate / o:.2f} GB/s), {o / r:.2f} times the Rust's"
+            for program in before:
+                b = statistics.median(times[program])
+                line += f"; before {b:.3f} s, {o / b:.2f} times before"
+            print(line)
             os.remove(path)
 
 

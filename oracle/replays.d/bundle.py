@@ -6,7 +6,7 @@ import sys
 
 import numpy as np
 
-from cases import KINDS, VERSIONS, cells, header_ends, settings, written
+from cases import HOLE, KINDS, VERSIONS, cells, header_ends, settings, written
 
 
 def text_as(file, at, old, new):
@@ -58,6 +58,19 @@ def files():
         yield both + bytes(extra)
     # Each cell of two bytes on its edges.
     yield one + written(np.array([[-32768, 32767, 0], [-1, 1, -32767], [1000, -1000, 999]], dtype="<i2"), (1, 0))
+    # The recorder's hole, one in a file: in each of the three columns, in the first, a middle and the last lane, in the first and the last row.
+    five = written(np.array([[0.5, 2, 0.01 * lane, 0.005, 0.01] for lane in range(5)], dtype="<f4"), (1, 0))
+    for column in range(3):
+        for lane in (0, 2, 4):
+            for row in (0, 5):
+                rng = random.Random(f"hole {column} {lane} {row}")
+                trace = np.array([[rng.randint(-900, 900) for _ in range(15)] for _ in range(6)], dtype="<i2")
+                trace[row, 3 * lane + column] = HOLE
+                yield five + written(trace, (1, 0))
+    # Holes only; the numbers beside a hole; and the same bytes in `<f4`, where they are numbers as any others.
+    yield one + written(np.full((2, 3), HOLE, dtype="<i2"), (1, 0))
+    yield one + written(np.array([[0, 0, -32767], [-32767, 0, 0], [0, -32767, 0], [32767, 1, 0]], dtype="<i2"), (1, 0))
+    yield one + written(np.array([[0x8000, 0, 0], [0x80008000, 0x80000000, 0], [0x80000000, 0, 0x8000]], dtype="<u4").view("<f4"), (1, 0))
     # NaN of many patterns, infinities, the smallest and the largest.
     odd = np.array([0x7FC00000, 0xFFC00001, 0x7F800001, 0x7F800000, 0xFF800000, 1, 0x80000001, 0x7F7FFFFF, 0x80000000], dtype="<u4").view("<f4")
     yield one + written(odd.reshape(3, 3), (1, 0))

@@ -8,6 +8,8 @@ import numpy as np
 # numpy.save writes version 1.0; version 2.0 is had from the function below it.
 VERSIONS = ((1, 0), (2, 0))
 KINDS = ("<f4", "<i2")
+# Request W2: what the recorder writes in `<i2` where it had no sample. It reads as NaN.
+HOLE = -32768
 
 
 def written(array, version):
@@ -41,12 +43,45 @@ def cells(rng, kind, rows, lanes):
     return numbers.reshape(rows, lanes * 3)
 
 
+def with_holes(rng, trace):
+    """A trace of `<i2` in which the recorder had no sample here and there: of a cell, of a lane, of all lanes."""
+    rows, columns = trace.shape
+    for _ in range(rng.choice([1, 1, 2, 5])):
+        row = rng.choice([0, rows - 1, rng.randrange(rows), rng.randrange(rows)])
+        first = rng.randrange(columns)
+        how = rng.random()
+        if how < 0.7:
+            trace[row, first] = HOLE
+        elif how < 0.9:
+            trace[row, first // 3 * 3 : first // 3 * 3 + 3] = HOLE
+        else:
+            trace[row] = HOLE
+    # The numbers beside the hole are numbers.
+    trace[rng.randrange(rows), rng.randrange(columns)] = rng.choice([HOLE + 1, 32767, 0])
+    return trace
+
+
+def read_trace(file):
+    return np.load(io.BytesIO(file[header_ends(file)[1] :]))
+
+
+def as_floats(file):
+    """A file with its trace of `<i2` as `<f4`, by NumPy's own arithmetic: NaN for a hole, every other number divided by 1000."""
+    trace = read_trace(file)
+    numbers = trace.astype("<f4") / np.float32(1000)
+    numbers[trace == HOLE] = np.nan
+    return file[: header_ends(file)[1]] + written(numbers, (1, 0))
+
+
 def good(rng):
     """A file that is accepted, and what it has of each."""
     lanes, kind = rng.randint(1, 8), rng.choice(KINDS)
     rows = rng.choice([0, 1, 2, rng.randint(3, 40), rng.randint(40, 400)])
     first, second = rng.choice(VERSIONS), rng.choice(VERSIONS)
-    return written(settings(rng, lanes), first) + written(cells(rng, kind, rows, lanes), second)
+    trace = cells(rng, kind, rows, lanes)
+    if kind == "<i2" and 0 < rows and rng.random() < 0.9:
+        trace = with_holes(rng, trace)
+    return written(settings(rng, lanes), first) + written(trace, second)
 
 
 def header_ends(file):
@@ -66,7 +101,10 @@ def small(rng):
     """A file of few bytes, for damage at each of its places."""
     lanes, kind = rng.randint(1, 2), rng.choice(KINDS)
     first, second = rng.choice(VERSIONS), rng.choice(VERSIONS)
-    return written(settings(rng, lanes), first) + written(cells(rng, kind, rng.randint(1, 3), lanes), second)
+    trace = cells(rng, kind, rng.randint(1, 3), lanes)
+    if kind == "<i2" and rng.random() < 0.5:
+        trace = with_holes(rng, trace)
+    return written(settings(rng, lanes), first) + written(trace, second)
 
 
 def lies(rng, file):

@@ -9,7 +9,7 @@ import subprocess
 import sys
 import threading
 
-from cases import damaged, good
+from cases import HOLE, as_floats, damaged, good, read_trace
 
 
 def answer(program, file):
@@ -64,19 +64,28 @@ def main():
     o = options.parse_args()
     rng = random.Random(o.seed)
     differ = 0
+    two_bytes, with_holes = 0, 0
     for name, count, maker in (("written by NumPy", o.files, None), ("damaged", o.damaged, damaged(rng))):
         ends = collections.Counter()
         for i in range(count):
             file = next(maker) if maker else good(rng)
             want, got = answer(o.rust, file), answer(o.program, file)
             ends[ended(want)] += 1
-            if want != got:
+            same = want == got
+            if not maker and (trace := read_trace(file)).dtype == "<i2":
+                # The cell rule once more, apart from the Rust's program: NumPy makes the numbers.
+                two_bytes += 1
+                with_holes += bool((trace == HOLE).any())
+                same = same and answer(o.program, as_floats(file)) == got
+            if not same:
                 differ += 1
                 kept = os.path.join(os.path.dirname(o.rust), "differs.npy.bin")
                 with open(kept, "wb") as to:
                     to.write(file)
                 print(f"{name} {i}: the answers differ; the file is kept as {kept}")
         print(f"{name}: {count} files, " + ", ".join(f"{n} {end}" for end, n in sorted(ends.items())))
+        if not maker:
+            print(f"of these <i2: {two_bytes} files, {with_holes} with holes, each replayed as <f4 too")
     pool = damaged(rng)
     for i in range(o.pieces):
         file = good(rng) if i % 2 else next(itertools.islice(pool, rng.randrange(300), None))
