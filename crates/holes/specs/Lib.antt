@@ -1,0 +1,2 @@
+pub mod NanInUpdate
+pub mod HoleInTrace
