@@ -1,4 +1,4 @@
-"""Writes the two example arrays with NumPy: two lanes, six rows, in thousandths."""
+"""Writes the example arrays with NumPy: two lanes, six rows, in thousandths; and the same trace with holes."""
 
 import numpy as np
 
@@ -12,3 +12,7 @@ trace = np.round(np.array(rows) * 1000).astype("<i2")
 
 np.save("examples/settings.npy", settings)
 np.save("examples/trace.npy", trace)
+
+# the same flight, but that in the third row the recorder had no sample of lane 0's measurement and none of lane 1's reference
+trace[2, 1] = trace[2, 3] = -32768
+np.save("examples/holes.npy", trace)
