@@ -67,7 +67,9 @@ def files():
                 trace = np.array([[rng.randint(-900, 900) for _ in range(15)] for _ in range(6)], dtype="<i2")
                 trace[row, 3 * lane + column] = HOLE
                 yield five + written(trace, (1, 0))
-    # Holes only; the numbers beside a hole; and the same bytes in `<f4`, where they are numbers as any others.
+    # A hole in the prediction while the integral stands still; holes only; the numbers beside a hole; and the same bytes in `<f4`, where they
+    # are numbers as any others.
+    yield one + written(np.array([[1500, 0, HOLE], [500, 0, 0], [500, 0, 0]], dtype="<i2"), (1, 0))
     yield one + written(np.full((2, 3), HOLE, dtype="<i2"), (1, 0))
     yield one + written(np.array([[0, 0, -32767], [-32767, 0, 0], [0, -32767, 0], [32767, 1, 0]], dtype="<i2"), (1, 0))
     yield one + written(np.array([[0x8000, 0, 0], [0x80008000, 0x80000000, 0], [0x80000000, 0, 0x8000]], dtype="<u4").view("<f4"), (1, 0))

@@ -1,4 +1,5 @@
--- From the row on in which a lane's measurement is NaN, as a hole of the recorder is, NaN is printed for that lane. Assumes nothing.
+-- Once a lane's measurement is NaN, as a hole of the recorder reads, every row that is printed from there on has NaN for that lane. Assumes
+-- nothing.
 use mathlib.Core.Path.{_≡_, refl, sym, ap, _∙_}
 use mathlib.Core.List.{List}
 use mathlib.Core.Bool.{true}
@@ -6,13 +7,15 @@ use Prim.Native.Nat.{ℕ, zero, suc, _+_, _*_, _≤_, _<_}
 use native.Mathlib.Nat.{suc-mul}
 use native.Mathlib.Omega.{arith}
 use lib.Ieee.{nan}
-use lib.ListN.{getD, drop}
+use lib.ListN.{getD, take, drop}
 use lib.Seq.{drop-drop}
 use Rattle.refusal.specs.Refusal.{passes}
 use Rattle.rate_pid.specs.declared.RatePid.{RatePid}
 use Rattle.rate_pid.specs.RatePid.{stepRatePid}
 use Rattle.npy.specs.declared.reader.Kind.{Kind}
-use Rattle.npy.specs.Header.{cellWidth}
+use Rattle.npy.specs.declared.reader.Kind.the-variants.{I2}
+use Rattle.npy.specs.Header.{lowFirst, cellWidth}
+use Rattle.npy.specs.HoleLaws.{i2-hole}
 use Rattle.npy.specs.Cell.{cellOf}
 use Rattle.npy.specs.Lines.{wordOf}
 use Rattle.bank.specs.declared.lane.Op.the-variants.{Update}
@@ -54,7 +57,7 @@ module _ (kind : Kind) (k L : ℕ) where
   unfolding laneUpdates readEach laneUpdateAt
   first-nan bytes e = updates-at kind k L 1 bytes 0 (laneUpdate kind L bytes) (omega arith) ∙ rw e
 
-  -- an update goes to one next state
+  -- the first row's update leaves that controller
   stepped : (s : RatePid) (bytes : List ℕ) → callSingle (one s) (laneUpdate kind L bytes) .single ≡ one (nextOf s bytes)
   unfolding laneUpdate updateOf callSingle nextOf
   stepped s bytes = refl
@@ -70,9 +73,18 @@ module _ (kind : Kind) (k L : ℕ) where
   values-nan (suc n) (suc q) (suc r) s bytes h e =
       rw (stepped s bytes) (values-nan n q r (nextOf s bytes) (drop (k * 3 * cellWidth kind) bytes) (omega arith) (sym (next-row q (L * 3 + 1) bytes) ∙ e))
 
--- Lane L prints NaN (7fc00000) in each row that is printed from row q on, if its measurement in row q is NaN: in `<i2` a hole (`i2-nan`).
-pub hole-prints : (s : List ℕ) (m L q r : ℕ) → passes (callStart s .refusal) ≡ true → CanTake m (callStart s .course) (bytesAfterStart s) → L < lanesOf s → q ≤ r → r < m
+-- if lane L's measurement in row q is NaN, lane L prints 7fc00000 in each printed row from q on
+pub nan-prints : (s : List ℕ) (m L q r : ℕ) → passes (callStart s .refusal) ≡ true → CanTake m (callStart s .course) (bytesAfterStart s) → L < lanesOf s → q ≤ r → r < m
     → cellAt (cellKindOf s) (lanesOf s * 3) (bytesAfterStart s) q (L * 3 + 1) ≡ nan → printedWord s L r ≡ wordOf nan
 unfolding controllerAt
-hole-prints s m L q r a t l o h e =
+nan-prints s m L q r a t l o h e =
     column-theorem s m L r a t l h ∙ ap wordOf (values-nan (cellKindOf s) (lanesOf s) L m q r _ (bytesAfterStart s) o e)
+
+-- in `<i2` by the hole's bytes: those of that cell, after the start, stand for 0x8000
+hole-cell : (kind : Kind) (k : ℕ) (bytes : List ℕ) (q c : ℕ) → kind ≡ I2 → lowFirst (take 2 (drop ((q * k + c) * 2) bytes)) ≡ 0x8000 → cellAt kind k bytes q c ≡ nan
+unfolding cellAt
+hole-cell kind k bytes q c e h = rw e (i2-hole (drop ((q * k + c) * 2) bytes) h)
+
+pub hole-prints : (s : List ℕ) (m L q r : ℕ) → passes (callStart s .refusal) ≡ true → CanTake m (callStart s .course) (bytesAfterStart s) → L < lanesOf s → q ≤ r → r < m
+    → cellKindOf s ≡ I2 → lowFirst (take 2 (drop ((q * (lanesOf s * 3) + (L * 3 + 1)) * 2) (bytesAfterStart s))) ≡ 0x8000 → printedWord s L r ≡ wordOf nan
+hole-prints s m L q r a t l o h k e = nan-prints s m L q r a t l o h (hole-cell (cellKindOf s) (lanesOf s * 3) (bytesAfterStart s) q (L * 3 + 1) k e)

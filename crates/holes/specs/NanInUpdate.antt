@@ -1,5 +1,5 @@
--- What a NaN does that an update brings. In the measurement, or in the prediction while the integral moves, it stays for good; in the
--- reference it is forgotten after the next update. Assumes nothing.
+-- What happens to a controller when an update brings NaN. In the measurement, or in the prediction while the integral moves, NaN stays
+-- for good; in the reference, without a limiter, it is gone after the next update. Assumes nothing.
 use mathlib.Core.Path.{_≡_, refl, ap, _∙_}
 use mathlib.Core.Bool.{Bool, true, false}
 use mathlib.Core.Logic.{_⊎_, inl, inr}
@@ -56,16 +56,16 @@ nan-div x = refl
 abbrev pub HoldsNan : RatePid → Type 0
 HoldsNan s = (s .«d_lowpass» .second .y ≡ nan) ⊎ (s .integral ≡ nan)
 
--- an update answered NaN, and what it leaves holds NaN
-abbrev pub Lost : RatePid → Type 0
-Lost next = (totalOf (next .terms) ≡ nan) × HoldsNan next
+-- the update that left this state answered NaN, and the state holds NaN
+abbrev pub NanForGood : RatePid → Type 0
+NanForGood next = (totalOf (next .terms) ≡ nan) × HoldsNan next
 
 module _ (s : RatePid) (r m p : Float) where
-  filtered-lost : filteredOf s m ≡ nan → Lost (stepRatePid s r m p)
+  filtered-lost : filteredOf s m ≡ nan → NanForGood (stepRatePid s r m p)
   unfolding stepRatePid termsOf totalOf measDerivativeOf filteredOf stepLowpass2 stepLowpass
   filtered-lost h = (rw (h, sub-nan, mul-nan, add-nan), inl h)
 
-  integral-lost : integratedOf s r m p .integral ≡ nan → Lost (stepRatePid s r m p)
+  integral-lost : integratedOf s r m p .integral ≡ nan → NanForGood (stepRatePid s r m p)
   unfolding stepRatePid termsOf totalOf
   integral-lost h = (rw (h, add-nan, nan-add, nan-add), inr h)
 
@@ -82,7 +82,7 @@ module _ (s : RatePid) (r m p : Float) where
       go false = h
 
   -- a controller that holds NaN answers NaN, whatever comes, and still holds it
-  pub nan-stays : HoldsNan s → Lost (stepRatePid s r m p)
+  pub nan-stays : HoldsNan s → NanForGood (stepRatePid s r m p)
   nan-stays (inl h) = filtered-lost (filter-keeps h)
   nan-stays (inr h) = integral-lost (integral-keeps h)
 
@@ -91,7 +91,7 @@ fed-nan : (s : RatePid) → filteredOf s nan ≡ nan
 unfolding filteredOf stepLowpass2 stepLowpass
 fed-nan s = rw (mul-nan, nan-add, mul-nan, nan-add)
 
-pub measurement-nan : (s : RatePid) (r p : Float) → Lost (stepRatePid s r nan p)
+pub measurement-nan : (s : RatePid) (r p : Float) → NanForGood (stepRatePid s r nan p)
 measurement-nan s r p = filtered-lost s r nan p (fed-nan s)
 
 -- a NaN predicted, while the integral moves
@@ -99,7 +99,7 @@ grown-nan : (s : RatePid) (r m : Float) → calmOf s r m ≡ true → integrated
 unfolding integratedOf integrated grownOf
 grown-nan s r m h = rw (h, nan-sub, mul-nan, nan-mul, nan-div, add-nan, clamp-nan)
 
-pub prediction-nan : (s : RatePid) (r m : Float) → calmOf s r m ≡ true → Lost (stepRatePid s r m nan)
+pub prediction-nan : (s : RatePid) (r m : Float) → calmOf s r m ≡ true → NanForGood (stepRatePid s r m nan)
 prediction-nan s r m h = integral-lost s r m nan (grown-nan s r m h)
 
 -- while it stands still, the prediction does not matter
@@ -126,9 +126,9 @@ slewed-nan s off = rw off
 nan-not-calm : (s : RatePid) (m : Float) → s .«d_slew» ≡ Off → calmOf s nan m ≡ false
 nan-not-calm s m off = not-calm s nan m (inr (inr (inl (slewed-nan s off))))
 
--- the same controller with another remembered reference, and with other terms
-withRef : RatePid → Float → PidTerms → RatePid
-withRef s r t = record {
+-- the same controller with another remembered reference and other terms
+withRefAndTerms : RatePid → Float → PidTerms → RatePid
+withRefAndTerms s r t = record {
   kp = s .kp;
   ki = s .ki;
   kd = s .kd;
@@ -143,26 +143,27 @@ withRef s r t = record {
   «d_slew» = s .«d_slew»;
 }
 
--- where the integral stands still, the reference goes nowhere else
-stands : (s : RatePid) (r q m p : Float) → s .«d_slew» ≡ Off → calmOf s r m ≡ false → calmOf s q m ≡ false
-    → stepRatePid s r m p ≡ withRef (stepRatePid s q m p) r (termsOf s r m p)
-unfolding stepRatePid integratedOf integrated slewedOf stepSlew withRef
-stands s r q m p off h g = rw (h, g, off)
+-- where the integral stands still, the reference goes into the remembered reference and the terms alone
+reference-apart : (s : RatePid) (r q m p : Float) → s .«d_slew» ≡ Off → calmOf s r m ≡ false → calmOf s q m ≡ false
+    → stepRatePid s r m p ≡ withRefAndTerms (stepRatePid s q m p) r (termsOf s r m p)
+unfolding stepRatePid integratedOf integrated slewedOf stepSlew withRefAndTerms
+reference-apart s r q m p off h g = rw (h, g, off)
 
--- the terms are not looked at, and of the remembered reference nothing stays but in the terms
-terms-unused : (s : RatePid) (t : PidTerms) (r m p : Float) → stepRatePid (withRef s (s .«prev_ref») t) r m p ≡ stepRatePid s r m p
-unfolding withRef stepRatePid termsOf slewedOf filteredOf dGainOf refDerivativeOf measDerivativeOf calmOf dampedOf dampingOf grownOf integrated integratedOf
+-- an update does not look at the stored terms
+terms-unused : (s : RatePid) (t : PidTerms) (r m p : Float) → stepRatePid (withRefAndTerms s (s .«prev_ref») t) r m p ≡ stepRatePid s r m p
+unfolding withRefAndTerms stepRatePid termsOf slewedOf filteredOf dGainOf refDerivativeOf measDerivativeOf calmOf dampedOf dampingOf grownOf integrated integratedOf
 terms-unused s t r m p = refl
 
-ref-once : (s : RatePid) (q : Float) (t : PidTerms) (r m p : Float)
-    → stepRatePid (withRef s q t) r m p ≡ withRef (stepRatePid s r m p) (stepRatePid s r m p .«prev_ref») (termsOf (withRef s q t) r m p)
-unfolding withRef stepRatePid slewedOf filteredOf dGainOf measDerivativeOf calmOf dampedOf dampingOf grownOf integrated integratedOf
-ref-once s q t r m p = refl
+-- the remembered reference goes into the next update's terms alone
+reference-once : (s : RatePid) (q : Float) (t : PidTerms) (r m p : Float)
+    → stepRatePid (withRefAndTerms s q t) r m p ≡ withRefAndTerms (stepRatePid s r m p) (stepRatePid s r m p .«prev_ref») (termsOf (withRefAndTerms s q t) r m p)
+unfolding withRefAndTerms stepRatePid slewedOf filteredOf dGainOf measDerivativeOf calmOf dampedOf dampingOf grownOf integrated integratedOf
+reference-once s q t r m p = refl
 
 -- after that the controller is as if the reference had been any other at which the integral stands still
 pub reference-forgotten : (s : RatePid) (r m p r' m' p' r'' m'' p'' : Float) → s .«d_slew» ≡ Off → calmOf s r m ≡ false
     → stepRatePid (stepRatePid (stepRatePid s nan m p) r' m' p') r'' m'' p'' ≡ stepRatePid (stepRatePid (stepRatePid s r m p) r' m' p') r'' m'' p''
 reference-forgotten s r m p r' m' p' r'' m'' p'' off h =
-    ap (λ (t : RatePid). stepRatePid (stepRatePid t r' m' p') r'' m'' p'') (stands s nan r m p off (nan-not-calm s m off) h)
-    ∙ ap (λ (t : RatePid). stepRatePid t r'' m'' p'') (ref-once (stepRatePid s r m p) nan _ r' m' p')
+    ap (λ (t : RatePid). stepRatePid (stepRatePid t r' m' p') r'' m'' p'') (reference-apart s nan r m p off (nan-not-calm s m off) h)
+    ∙ ap (λ (t : RatePid). stepRatePid t r'' m'' p'') (reference-once (stepRatePid s r m p) nan _ r' m' p')
     ∙ terms-unused (stepRatePid (stepRatePid s r m p) r' m' p') _ r'' m'' p''

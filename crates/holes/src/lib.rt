@@ -1,1 +1,1 @@
-// No code: specs/NanInUpdate.antt says what a NaN does to a controller that an update brings it, and specs/HoleInTrace.antt what is printed after a hole of the recorder.
+// No code: specs/NanInUpdate.antt says what happens to a controller when an update brings NaN, specs/HoleInTrace.antt what is printed after a hole of the recorder.
