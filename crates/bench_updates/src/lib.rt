@@ -2,16 +2,8 @@
 ghost use mathlib.Core.Path.{_≡_};
 ghost use lib.ListN.{length, getD};
 ghost use lib.Ieee.{nan};
-ghost use Rattle.root.specs.Root.{root};
 ghost use Rattle.bench_updates.specs.Updates.{newOf, updatesIn, outAfter};
 use rate_pid::RatePid;
-
-#[no_mangle]
-pub extern "C" fn plumradek_sqrt(x: f32) -> f32
-    ensures { λ r. ⌜ r ≡ root x ⌝ }
-{
-    root::sqrt(x)
-}
 
 pub fn setting(s: &[f32], i: usize) -> f32
     ensures { λ r. ⌜ r ≡ getD (now (s .entry)) i nan ⌝ }

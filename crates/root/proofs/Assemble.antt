@@ -4,20 +4,19 @@ use mathlib.Core.Logic.{inl, inr}
 use Prim.Native.Nat.{ℕ, zero, suc, _+_, _-_, _*_, _/_, _%_, _^_, _≤_, _<_}
 use native.Mathlib.Nat.{le-trans, le-of-eq, eq-or-lt-of-le, mul-le-mul, mul-le-mul-right, mul-lt-mul-of-pos-right, mul-comm, mul-assoc, mul-add, add-mul, mul-pos, mul-mul-mul-comm, pow-suc, add-comm}
 use native.Mathlib.Omega.{arith}
-use lib.Pow.{pow-pos, pow-add}
+use native.Mathlib.Decide.{decLe, ℕ-discrete}
+use lib.Pow.{pow-pos, pow-add, field, mod-mod-pow}
 use Rattle.root.specs.Root.{ofParts, scaled, twiceMiddle, fourfold, rootBits}
 use Rattle.root.specs.RootLaws.{Nearest, root-nearest, nearest-unique}
 use Rattle.root.specs.Patterns.{scaled-mono, parts-at, twice-middle-is, scaled-is, scaled-at, odd-square, next-twice-middle, own-twice-middle, fourfold-is}
-use Rattle.root.specs.Post.{IsParts, IsRounded}
+use Rattle.root.specs.NearLaws.{one-more}
+use Rattle.root.specs.Post.{IsParts, PartsIn, IsRounded}
 
 square-le : (x g p m : ℕ) → x ≤ g * p → g * g ≤ m → x * x ≤ m * (p * p)
 square-le x g p m h l = le-trans (mul-le-mul h h) (le-trans (le-of-eq (mul-mul-mul-comm g p g p)) (mul-le-mul-right (p * p) l))
 
 square-gt : (x g p m : ℕ) → 0 < p → x ≡ g * p → m < g * g → m * (p * p) < x * x
 square-gt x g p m P e l = rw (e, mul-mul-mul-comm g p g p) (mul-lt-mul-of-pos-right l (mul-pos P P))
-
-one-more : (r : ℕ) → (r + 1) * (r + 1) ≡ r * r + r + r + 1
-one-more r = simp (mul-add, add-mul) (omega arith)
 
 least-twice-middle : (k : ℕ) → twiceMiddle (k * 2 ^ 23 + 2 ^ 23) ≤ 2 ^ 24 * 2 ^ k
 least-twice-middle k =
@@ -44,25 +43,18 @@ is-nearest n k r R N = record {
   above = square-gt (twiceMiddle (suc (k * 2 ^ 23 + r))) (r + r + 1) (2 ^ k) (4 * n) (pow-pos k) (next-twice-middle k r (R .least) (R .most)) (rw odd-square (omega arith));
 }
 
--- ---- the halving
+-- ---- the root of n, rounded
 pub small-square : (a : ℕ) → a ≤ 2 ^ 24 → a * a ≤ 2 ^ 48
 small-square a h = mul-le-mul h h
 
-up-most : (n lo : ℕ) → lo + 1 ≤ 2 ^ 24 → lo * lo + lo < n → n ≤ 2 ^ 48 - 2 ^ 24 → lo + 1 < 2 ^ 24
-up-most n lo h l N =
-    elim (eq-or-lt-of-le h) [
-      | inl e ↦ let f : lo ≡ 2 ^ 24 - 1 = omega arith in let g : 2 ^ 48 - 2 ^ 24 < n = rw f at l in omega arith
-      | inr i ↦ i
-    ]
-
-pub rounded-up : (n lo hi : ℕ) → 2 ^ 23 ≤ lo → lo < hi → hi ≤ 2 ^ 24 → hi ≤ lo + 1 → n < hi * hi → n ≤ 2 ^ 48 - 2 ^ 24 → lo * lo + lo < n → IsRounded n (lo + 1)
-rounded-up n lo hi a b c d e N u =
-    let f : hi ≡ lo + 1 = omega arith in
-    let g : n < lo * lo + lo + lo + 1 = rw (f, one-more) at e in
-    record { least = omega arith; most = up-most n lo (omega arith) u N; under = rw one-more (omega arith); over = rw one-more (omega arith) }
-
-pub rounded-down : (n lo hi : ℕ) → 2 ^ 46 ≤ n → 2 ^ 23 ≤ lo → lo < hi → hi ≤ 2 ^ 24 → lo * lo ≤ n → n ≤ lo * lo + lo → IsRounded n lo
-rounded-down n lo hi N a b c d u = record { least = a; most = omega arith; under = omega arith; over = u }
+-- the two bounds on n hold r between 2 ^ 23 and 2 ^ 24
+pub is-rounded : (n r : ℕ) → 2 ^ 46 ≤ n → n ≤ 2 ^ 48 - 2 ^ 24 → r * r < n + r → n ≤ r * r + r → IsRounded n r
+is-rounded n r N M u o = record {
+  least = elim (decLe (2 ^ 23) r) [ yes h ↦ h | no f ↦ let l : r ≤ 2 ^ 23 - 1 = omega arith in omega (arith, mul-le-mul l l) ];
+  most = elim (decLe (2 ^ 24) r) [ yes h ↦ omega (arith, mul-le-mul-right r h) | no f ↦ omega arith ];
+  under = u;
+  over = o;
+}
 
 -- ---- the parts of a pattern
 value-at : (x t : ℕ) → (t + 2 ^ 23) * 2 ^ (suc x + 125) ≡ ofParts (suc x) t * 2 ^ 126
@@ -118,3 +110,36 @@ pub found : (b n k r : ℕ) → b < 2 ^ 31 → 2 ^ 46 ≤ n → IsRounded n r �
 found b n k r B N R H =
     let e : 4 * n * (2 ^ k * 2 ^ k) ≡ fourfold b = mul-assoc 4 n (2 ^ k * 2 ^ k) ∙ ap (λ (z : ℕ). 4 * z) H ∙ sym (mul-assoc 4 (scaled b) (2 ^ 149)) ∙ sym (fourfold-is b) in
     nearest-unique (fourfold b) (k * 2 ^ 23 + r) (rootBits b) (subst (λ (z : ℕ). Nearest z (k * 2 ^ 23 + r)) e (is-nearest n k r R N)) (root-nearest b B)
+
+-- ---- the same where the parts stand in one number t: m without its leading digit, and e from place 23 on
+-- the whole number whose root is taken, from the 24 low digits of t: where e's last digit is 1, a place goes to m
+abbrev pub radicand : ℕ → ℕ
+radicand t = (t % 2 ^ 24 % 2 ^ 23 + 2 ^ 23) * (t % 2 ^ 24 / 2 ^ 23 * 2 ^ 23 + 2 ^ 23)
+
+radicand-odd : (t : ℕ) → t / 2 ^ 23 % 2 ≡ 1 → radicand t ≡ (t % 2 ^ 23 + 2 ^ 23) * 2 ^ 23 * 2
+radicand-odd t h = rw (mod-mod-pow t 1 23, field t 1 23, h) (sym (mul-assoc (t % 2 ^ 23 + 2 ^ 23) (2 ^ 23) 2))
+
+radicand-even : (t : ℕ) → (t / 2 ^ 23 % 2 ≡ 1 → ⊥) → radicand t ≡ (t % 2 ^ 23 + 2 ^ 23) * 2 ^ 23
+radicand-even t f = let h : t / 2 ^ 23 % 2 ≡ 0 = omega arith in rw (mod-mod-pow t 1 23, field t 1 23, h)
+
+pub radicand-bounds : (t : ℕ) → (2 ^ 46 ≤ radicand t) × (radicand t ≤ 2 ^ 48 - 2 ^ 24)
+radicand-bounds t = elim (ℕ-discrete (t / 2 ^ 23 % 2) 1) [ yes o ↦ rw (radicand-odd t o) (omega arith, omega arith) | no f ↦ rw (radicand-even t f) (omega arith, omega arith) ]
+
+radicand-holds : (b t : ℕ) → PartsIn b t → Holds b (radicand t) (t / 2 ^ 23 / 2)
+radicand-holds b t P =
+    elim (ℕ-discrete (t / 2 ^ 23 % 2) 1) [
+      | yes o ↦ rw (radicand-odd t o) (holds-odd b (t % 2 ^ 23 + 2 ^ 23) (t / 2 ^ 23) P o)
+      | no f ↦ rw (radicand-even t f) (holds-even b (t % 2 ^ 23 + 2 ^ 23) (t / 2 ^ 23) P f)
+    ]
+
+pub answer : (b t r : ℕ) → b < 2 ^ 31 → PartsIn b t → IsRounded (radicand t) r → t / 2 ^ 24 * 2 ^ 23 + r ≡ rootBits b
+answer b t r B P R =
+    let half : t / 2 ^ 24 ≡ t / 2 ^ 23 / 2 = omega arith in
+    rw half (found b (radicand t) (t / 2 ^ 23 / 2) r B (radicand-bounds t .0) R (radicand-holds b t P))
+
+pub normal-parts : (b : ℕ) → 2 ^ 23 ≤ b → b < 2 ^ 31 → PartsIn b (b + 125 * 2 ^ 23)
+normal-parts b h l =
+    let t = b + 125 * 2 ^ 23 in
+    let digits : t % 2 ^ 23 ≡ b % 2 ^ 23 = omega arith in
+    let field : t / 2 ^ 23 ≡ b / 2 ^ 23 + 125 = omega arith in
+    rw (digits, field) (split-normal b h l)

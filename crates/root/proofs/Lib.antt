@@ -1,3 +1,4 @@
 -- What the functions' proofs share.
 mod Assemble
 mod Ties
+mod Small

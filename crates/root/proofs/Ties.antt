@@ -1,11 +1,12 @@
--- Which values the tests of `sqrt` leave, and that each of its answers is the definition's. Assumes nothing.
+-- Which values the tests of `sqrt` and `by_search` leave, that each answer there is the definition's, and which patterns are none of NaN's. Assumes nothing.
 use mathlib.Core.Path.{_≡_, refl, sym, ap, _∙_}
 use mathlib.Core.Bool.{true, false, not, true≢false}
-use Prim.Native.Nat.{ℕ, zero, suc, _^_, _<_}
+use Prim.Native.Nat.{ℕ, zero, suc, _%_, _^_, _≤_, _<_}
 use native.Mathlib.Omega.{arith}
+use borrow.Author.Tests.{le-ltb}
 use lib.Dec.{T}
-use lib.Ieee.{Float, nan, inf, fin, binary32, ofBits, toBits, nanBits, isNan, fits, lt, eq}
-use lib.Ieee.Bits.{ofBits-toBits}
+use lib.Ieee.{Float, nan, inf, fin, binary32, binary64, ofBits, toBits, nanBits, isNan, fits, lt, eq}
+use lib.Ieee.Bits.{ofBits-toBits, nanBits-above}
 use Rattle.float.specs.F32 as F
 use Rattle.float.specs.FloatLaws.{lt-right, eq-zero, zero-equals, above-zero, zero-not-above, no-nan-pattern}
 use Rattle.root.specs.Root.{root, rootBits}
@@ -13,8 +14,8 @@ use Rattle.root.specs.RootRule.{root-infinity}
 use Rattle.root.specs.RootLaws.{root-finite}
 use Rattle.root.specs.Values.{infinite}
 
-pub above-is-number : (x : Float) → lt F.zero x ≡ true → T (not (isNan x))
-above-is-number x h = let e : isNan x ≡ false = lt-right F.zero x h in rw e tt
+pub above-is-number : (a x : Float) → lt a x ≡ true → T (not (isNan x))
+above-is-number a x h = let e : isNan x ≡ false = lt-right a x h in rw e tt
 
 pub at-infinity : (x : Float) → T (fits binary32 x) → toBits binary32 x ≡ 0x7f80_0000 → x ≡ root x
 at-infinity x fit e =
@@ -48,3 +49,7 @@ neither (fin false (suc m) e) h k = absurd (true≢false (sym (above-zero m e) �
 
 pub no-nan : (b : ℕ) → b < 2 ^ 31 → T (not (nanBits binary32 (rootBits b)))
 no-nan b h = no-nan-pattern (rootBits b) (omega (arith, root-finite b h))
+
+-- `no-nan-pattern` of `float`, at binary64
+pub number-wide : (n : ℕ) → n % 2 ^ 63 ≤ 0x7ff0_0000_0000_0000 → T (not (nanBits binary64 n))
+number-wide n h = let e : nanBits binary64 n ≡ false = nanBits-above binary64 n ∙ le-ltb _ _ h in rw e tt

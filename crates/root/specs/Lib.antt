@@ -7,3 +7,4 @@ pub mod RootTheorem
 pub mod RootTies
 pub mod RootRule
 pub mod Post
+pub mod NearLaws

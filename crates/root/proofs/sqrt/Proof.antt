@@ -1,11 +1,11 @@
-use mathlib.Core.Path.{sym, ap, _∙_, subst}
-use mathlib.Core.Bool.{not}
+use mathlib.Core.Path.{sym, subst}
+use native.Mathlib.Omega.{arith}
+use borrow.Author.Needs.{needs}
 use lib.Dec.{T}
-use lib.Ieee.{binary32, fits, ofBits, toBits, nanBits}
-use Prim.Native.Nat.{ℕ}
-use Rattle.float.specs.FloatLaws.{nan-is}
+use lib.Ieee.{binary32, fits, toBits}
 use Rattle.root.specs.Values.{no-sign, some-bits}
-use Rattle.root.proofs.Ties.{above-is-number, at-infinity, at-number, at-zero, neither, no-nan}
+use Rattle.root.proofs.Assemble.{normal-parts}
+use Rattle.root.proofs.Ties.{above-is-number}
 use Rattle.root.proofs.sqrt.Statement.{statement}
 use Rattle.root.proofs.sqrt.Tie as tie
 
@@ -14,34 +14,40 @@ held : (c : tie.Start) → T (fits binary32 (c .args .x))
 held c = subst T (sym (c .good .0 .1)) tt
 
 float-to-bits-b : tie.Need-float-to-bits-b
-float-to-bits-b c = above-is-number (c .before .args .x) (c .if1 .taken)
+float-to-bits-b c = above-is-number _ (c .before .args .x) (c .if1 .taken)
+
+subnormal-parts-requires : tie.Need-subnormal-parts-requires
+subnormal-parts-requires c κs =
+    let s = c .before .before in
+    (some-bits (s .args .x) (held s) (c .before .if1 .taken), c .if2 .taken)
+
+quick-requires : tie.Need-quick-requires
+quick-requires c κs =
+    let small = c .before .if2 .taken in
+    (c .before .before .if1 .taken, omega (arith, small), c .subnormal-parts .ensures)
 
 returns : tie.Need-returns
-returns c =
-    let at-start = c .before .before in
-    at-infinity (at-start .args .x) (held at-start) (c .if2 .taken)
+returns c = search needs
 
-root-bits-requires : tie.Need-root-bits-requires
-root-bits-requires c κs =
-    let at-start = c .before .before in
-    let x = at-start .args .x in
-    (some-bits x (held at-start) (c .before .if1 .taken), no-sign x (held at-start) (c .before .if1 .taken))
+add-quick : tie.Need-add-quick
+add-quick c = search needs
 
-float-from-bits-result : tie.Need-float-from-bits-result
-float-from-bits-result c =
-    let at-start = c .before .before .before in
-    let x = at-start .args .x in
-    subst (λ (n : ℕ). T (not (nanBits binary32 n))) (sym (c .root-bits .ensures)) (no-nan (toBits binary32 x) (no-sign x (held at-start) (c .before .before .if1 .taken)))
+quick-requires-2 : tie.Need-quick-requires-2
+quick-requires-2 c κs =
+    let s = c .before .before .before in
+    let above = c .before .before .if1 .taken in
+    (above, c .if3 .taken, normal-parts (toBits binary32 (s .args .x)) (c .before .if2 .left) (no-sign (s .args .x) (held s) above))
 
 returns-2 : tie.Need-returns-2
-returns-2 c =
-    ap (ofBits binary32) (c .root-bits .ensures) ∙ at-number (c .before .before .before .args .x) (c .before .before .if1 .taken) (c .before .if2 .left)
+returns-2 c = search needs
+
+by-search-requires : tie.Need-by-search-requires
+by-search-requires c κs = search needs
 
 returns-3 : tie.Need-returns-3
-returns-3 c = at-zero (c .before .before .args .x) (c .if3 .taken)
-
-returns-4 : tie.Need-returns-4
-returns-4 c = sym nan-is ∙ neither (c .before .before .args .x) (c .before .if1 .left) (c .if3 .left)
+returns-3 c = search needs
 
 pub sqrt-spec : {M : Type 1} → statement M
-sqrt-spec = tie.close (tie.spec float-to-bits-b returns root-bits-requires float-from-bits-result returns-2 returns-3 returns-4)
+sqrt-spec =
+    tie.close
+    (tie.spec float-to-bits-b subnormal-parts-requires quick-requires returns add-quick quick-requires-2 returns-2 by-search-requires returns-3)

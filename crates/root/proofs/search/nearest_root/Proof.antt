@@ -1,8 +1,10 @@
+use mathlib.Core.Path.{_≡_}
 use Prim.Native.Nat.{_+_, _-_, _*_, _/_, _^_, _≤_, _<_}
 use native.Mathlib.Omega.{arith}
-use Rattle.root.proofs.Assemble.{small-square, rounded-up, rounded-down}
-use Rattle.root.proofs.nearest_root.Statement.{statement}
-use Rattle.root.proofs.nearest_root.Tie as tie
+use Rattle.root.specs.NearLaws.{one-more}
+use Rattle.root.proofs.Assemble.{small-square, is-rounded}
+use Rattle.root.proofs.search.nearest_root.Statement.{statement}
+use Rattle.root.proofs.search.nearest_root.Tie as tie
 
 abbrev Inv-loop : tie.InvT-loop
 Inv-loop n lo₀ hi₀ lo hi = (2 ^ 23 ≤ lo) × (lo < hi) × (hi ≤ 2 ^ 24) × (lo * lo ≤ n) × (n < hi * hi)
@@ -50,13 +52,15 @@ returns : tie.Need-returns Inv-loop μ-loop
 returns c =
     let l = c .before .before .loop in
     let at-start = c .before .before .before in
-    rounded-up (at-start .args .n) (l .lo) (l .hi) (l .inv .0) (l .inv .1) (l .inv .2) (omega arith) (l .inv .4) (at-start .pre .1) (c .if2 .taken)
+    let next : l .hi ≡ l .lo + 1 = omega arith in
+    let most : at-start .args .n < l .lo * l .lo + l .lo + l .lo + 1 = rw (next, one-more) at (l .inv .4) in
+    is-rounded (at-start .args .n) (l .lo + 1) (at-start .pre .0) (at-start .pre .1) (rw one-more (omega arith)) (rw one-more (omega arith))
 
 returns-2 : tie.Need-returns-2 Inv-loop μ-loop
 returns-2 c =
     let l = c .before .before .loop in
     let at-start = c .before .before .before in
-    rounded-down (at-start .args .n) (l .lo) (l .hi) (at-start .pre .0) (l .inv .0) (l .inv .1) (l .inv .2) (l .inv .3) (c .if2 .left)
+    is-rounded (at-start .args .n) (l .lo) (at-start .pre .0) (at-start .pre .1) (omega arith) (omega arith)
 
 pub nearest-root-spec : {M : Type 1} → statement M
 nearest-root-spec =

@@ -4,8 +4,8 @@ use Prim.Native.Nat.{ℕ, _/_}
 use native.Mathlib.Omega.{arith}
 use borrow.Author.Needs.{needs}
 use Rattle.root.proofs.Assemble.{Holds, holds-even, holds-odd, found}
-use Rattle.root.proofs.root_bits.Statement.{statement}
-use Rattle.root.proofs.root_bits.Tie as tie
+use Rattle.root.proofs.search.root_bits.Statement.{statement}
+use Rattle.root.proofs.search.root_bits.Tie as tie
 
 split-requires : tie.Need-split-requires
 split-requires c κs = search needs

@@ -3,8 +3,8 @@ use Prim.Native.Nat.{_-_, _*_, _^_, _≤_, _<_}
 use native.Mathlib.Omega.{arith}
 use Rattle.root.proofs.Assemble.{split-normal, some-left, one-step}
 use Rattle.root.specs.Patterns.{scaled-small}
-use Rattle.root.proofs.split.Statement.{statement}
-use Rattle.root.proofs.split.Tie as tie
+use Rattle.root.proofs.search.split.Statement.{statement}
+use Rattle.root.proofs.search.split.Tie as tie
 
 abbrev Inv-loop : tie.InvT-loop
 Inv-loop b m₀ e₀ m e = (0 < m) × (m < 2 ^ 24) × (e ≤ 126) × (m * 2 ^ e ≡ b * 2 ^ 126)
