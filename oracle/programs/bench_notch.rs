@@ -6,7 +6,7 @@ use driver::told::angle;
 use holsatus::filters::NotchFilter;
 use std::f32::consts::PI;
 use std::hint::black_box;
-use timing::{call, compare, noise, UPDATES};
+use timing::{call, compare, noise, CALLS};
 
 extern "C" {
     fn plumradek_notch(s: *const f32, ns: usize, samples: *const f32, n: usize, out: *mut f32, no: usize);
@@ -28,7 +28,7 @@ fn settings() -> Vec<f32> {
 fn samples() -> Vec<f32> {
     let mut noise = noise();
     let vibration = |i: usize| (i as f32 * 2.0 * PI * CENTERS[0] * DT).sin();
-    (0..UPDATES).map(|i| (i as f32 / 300.0).sin() + vibration(i) * 0.3 + noise() * 0.1).collect()
+    (0..CALLS).map(|i| (i as f32 / 300.0).sin() + vibration(i) * 0.3 + noise() * 0.1).collect()
 }
 
 #[inline(never)]
@@ -44,12 +44,14 @@ fn main() {
     let (settings, samples) = (settings(), samples());
     println!("1 notch");
     compare(
+        "a sample",
         &settings[..4],
         &samples,
         &[("Rust", rust::<1>), ("ours", |s, samples, out| call(plumradek_notch, s, samples, out))],
     );
     println!("3 notches");
     compare(
+        "a sample",
         &settings,
         &samples,
         &[("Rust", rust::<3>), ("ours", |s, samples, out| call(plumradek_notches, s, samples, out))],

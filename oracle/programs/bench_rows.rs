@@ -30,7 +30,7 @@ fn main() {
     let cells = cells();
     let lanes = |heading, runs: &[(&str, Run)]| {
         println!("{heading}");
-        compare(&SETTINGS, &cells, runs);
+        compare("an update", &SETTINGS, &cells, runs);
     };
     lanes("1 lane", &[("Rust", rust::<1>), ("by rows", |s, cells, out| call(plumradek_rows_1, s, cells, out))]);
     lanes("2 lanes", &[("Rust", rust::<2>), ("by rows", |s, cells, out| call(plumradek_rows_2, s, cells, out))]);

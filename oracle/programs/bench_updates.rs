@@ -26,5 +26,5 @@ fn main() {
         ("by value", |s, cells, out| call(plumradek_updates, s, cells, out)),
         ("in place", |s, cells, out| call(plumradek_updates_in_place, s, cells, out)),
     ];
-    compare(&SETTINGS, &cells(), &runs);
+    compare("an update", &SETTINGS, &cells(), &runs);
 }

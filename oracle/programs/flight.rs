@@ -1,6 +1,6 @@
 //! What the runs of a rate controller are given.
 
-use crate::timing::{noise, UPDATES};
+use crate::timing::{noise, CALLS};
 
 pub const SETTINGS: [f32; 5] = [0.3, 0.5, 0.02, 0.01, 0.004];
 
@@ -8,5 +8,5 @@ pub const SETTINGS: [f32; 5] = [0.3, 0.5, 0.02, 0.01, 0.004];
 /// are taken.
 pub fn cells() -> Vec<f32> {
     let mut noise = noise();
-    (0..UPDATES * 3).map(|i| (i as f32 / 900.0).sin() * 1.05 + noise() * 0.1).collect()
+    (0..CALLS * 3).map(|i| (i as f32 / 900.0).sin() * 1.05 + noise() * 0.1).collect()
 }
