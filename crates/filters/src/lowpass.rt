@@ -1,6 +1,6 @@
 // A first order low pass. It accepts every number. In memory the two coefficients stand apart, for speed (docs/DECISIONS.md).
 ghost use mathlib.Core.Path.{_≡_};
-ghost use Rattle.filters.specs.Lowpass.{lowpassOf, newLowpass, setDtLowpass, setTauLowpass, stepLowpass};
+ghost use Rattle.filters.specs.Lowpass.{alpha0Of, lowpassOf, newLowpass, setDtLowpass, setTauLowpass, stepLowpass};
 
 pub struct Lowpass {
     pub y: f32,
@@ -15,11 +15,19 @@ pub struct Lowpassed {
     pub filter: Lowpass,
 }
 
+// Where tau + dt is zero, the quotient would be NaN or an infinity.
+fn alpha0(tau: f32, dt: f32) -> f32
+    ensures { λ r. ⌜ r ≡ alpha0Of tau dt ⌝ }
+{
+    let sum = tau + dt;
+    if sum == 0.0 { 1.0 } else { dt / sum }
+}
+
 // The one place that makes the coefficients.
 fn with(tau: f32, dt: f32, y: f32) -> Lowpass
     ensures { λ r. ⌜ r ≡ lowpassOf tau dt y ⌝ }
 {
-    let alpha0 = dt / (tau + dt);
+    let alpha0 = alpha0(tau, dt);
     let alpha1 = 1.0 - alpha0;
     Lowpass {
         tau,
