@@ -1,4 +1,5 @@
-//! A driver over the unchanged Rust: it answers the lines of the protocol (CALLS.md) and makes such lines.
+//! A driver over the Rust, unchanged but for request W4's one formula (oracle/lowpass_rule): it answers the lines of the
+//! protocol (CALLS.md) and makes such lines.
 
 pub mod check;
 pub mod counted;

@@ -1,4 +1,5 @@
-//! The root of a crate over the Rust sources, which lie beside this file (by links) and are used unchanged.
+//! The root of a crate over the Rust sources, which lie beside this file (by links) and are used unchanged, but for
+//! request W4's one formula: filters/mod.rs is a copy in which oracle/lowpass_rule has changed it.
 //! What is added to them reads and sets their private fields.
 
 /// Stands in for the sources' own macro, whose text is not among them: a constant default and `Default` by it.
