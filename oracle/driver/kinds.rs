@@ -7,9 +7,13 @@
 //! | x | a signal |
 //! | y | a signal that stays about a level for a while, is often near 1 and at times exactly 1 |
 //! | e | an error, often some steps away from the last range of kind w |
-//! | t | a time constant, 0 too |
-//! | p | a time constant above 0 |
-//! | d | a sampling time |
+//! | t | a time constant, 0 too; at times the negative of the last of kind d |
+//! | T | the same for a lane, which keeps the first where it is open |
+//! | o | the last time constant again |
+//! | p | a time constant above 0; where the last of kind d is below 0, its negative |
+//! | d | a sampling time; at times the negative of the last time constant |
+//! | j | the last of kind d again |
+//! | i | a sampling time that no time constant has to do with |
 //! | a | a weight from 0 to 1 |
 //! | s | a weight above 0 |
 //! | g | a gain |
@@ -33,7 +37,8 @@
 use crate::notches::{biquad, NotchOperands};
 use crate::random::Random;
 use crate::ranges::{refused_bounds, steps};
-use crate::values::{dyadic, float, odd_or};
+use crate::times::{sampling_time, Times, ZeroSums};
+use crate::values::{dyadic, float, odd_or, positive};
 use std::f32::consts::PI;
 
 /// What the operands of one state have to do with those before them.
@@ -43,19 +48,21 @@ pub struct Memory {
     range: (f32, f32),
     /// What signals stay about.
     level: f32,
+    times: Times,
     notches: NotchOperands,
     /// The operands of the episode's first line.
     first: Vec<u32>,
 }
 
 impl Memory {
-    pub fn new(lane: u32) -> Self {
-        Memory { lane, range: (-1.0, 1.0), level: 0.0, notches: NotchOperands::new(), first: Vec::new() }
+    pub fn new(lane: u32, sums: ZeroSums) -> Self {
+        let (times, notches) = (Times::new(sums), NotchOperands::new());
+        Memory { lane, range: (-1.0, 1.0), level: 0.0, times, notches, first: Vec::new() }
     }
 
-    /// All but the lane, for a new episode.
-    pub fn forget(&mut self) {
-        *self = Memory::new(self.lane);
+    /// All but the lane, for a new episode with these sums of zero.
+    pub fn forget(&mut self, sums: ZeroSums) {
+        *self = Memory::new(self.lane, sums);
     }
 
     /// What kind = will be.
@@ -66,10 +73,13 @@ impl Memory {
     pub fn ordinary(&mut self, r: &mut Random, kind: u8, to: &mut Vec<u32>) {
         let x = match kind {
             b'x' => r.unit() * 2.0,
-            b't' if r.once_in(8) => 0.0,
-            b't' | b'p' => positive(r, -10, 0),
-            b'd' if r.once_in(8) => r.one_of(&[0.25, 0.5, 1.0]),
-            b'd' => positive(r, -13, -3),
+            b't' => self.times.tau(r),
+            b'T' => self.times.first_tau(r),
+            b'o' => self.times.tau_again(),
+            b'p' => self.times.tau_above_zero(r),
+            b'd' => self.times.dt(r),
+            b'j' => self.times.dt_again(),
+            b'i' => sampling_time(r),
             b'a' => r.unit().abs(),
             b's' if r.once_in(16) => 1.0,
             b's' => positive(r, -8, 0),
@@ -125,6 +135,8 @@ impl Memory {
             b'q' => to.extend(biquad(r, true)),
             b'u' => self.notches.run(r, true, to),
             b's' => to.push(odd_or(r, |r| beside(r, 1.0).to_bits())),
+            b't' | b'T' | b'p' => to.push(self.times.odd_tau(r)),
+            b'd' => to.push(self.times.odd_dt(r)),
             _ => to.push(odd_or(r, float)),
         }
     }
@@ -166,9 +178,4 @@ impl Memory {
 /// The number itself, a neighbour of it, or its negative.
 fn beside(r: &mut Random, x: f32) -> f32 {
     r.one_of(&[x, x.next_up(), x.next_down(), -x])
-}
-
-/// A number from 2^low to 2^high.
-fn positive(r: &mut Random, low: i32, high: i32) -> f32 {
-    (1.5 + r.unit() / 2.0) * 2f32.powi(low + r.below((high - low) as usize) as i32)
 }

@@ -17,5 +17,6 @@ pub mod protocol;
 pub mod random;
 pub mod ranges;
 pub mod states;
+pub mod times;
 pub mod told;
 pub mod values;

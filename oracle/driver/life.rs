@@ -5,6 +5,7 @@
 use crate::generator::{Line, Maker};
 use crate::kinds::Memory;
 use crate::random::Random;
+use crate::times::ZeroSums;
 
 /// A call's name, less that of its type, and the kinds of its operands (see `kinds`).
 pub type Shape = (&'static str, &'static str);
@@ -16,6 +17,8 @@ pub struct Life {
     pub begin: &'static [&'static [Shape]],
     pub often: &'static [Shape],
     pub seldom: &'static [Shape],
+    /// Whether it goes on with numbers where tau + dt is zero; of no interest where it has neither.
+    pub outlives_zero_sums: bool,
 }
 
 /// Lines on as many states as lives are given, in no order. A life's place in the list is the lane of a bank.
@@ -41,7 +44,8 @@ struct Episode {
 
 impl Episode {
     fn new(life: &'static Life, lane: u32) -> Self {
-        Episode { life, memory: Memory::new(lane), beginning: &[], left: 0, odd_one_in: 1, operands: Vec::new() }
+        let memory = Memory::new(lane, ZeroSums::None);
+        Episode { life, memory, beginning: &[], left: 0, odd_one_in: 1, operands: Vec::new() }
     }
 
     fn line(&mut self, r: &mut Random, to: &mut Line) {
@@ -68,12 +72,25 @@ impl Episode {
     /// The long episodes are few, but most lines are theirs.
     fn begin(&mut self, r: &mut Random) {
         self.beginning = r.one_of(self.life.begin);
-        self.memory.forget();
         (self.left, self.odd_one_in) = match r.below(40) {
             0 => (1_000 + r.below(4_000), 3_000),
             1..=4 => (100 + r.below(200), 100),
             _ => (1 + r.below(30), r.one_of(&[2, 4, 12, 40])),
         };
+        self.memory.forget(self.zero_sums());
+    }
+
+    fn is_short(&self) -> bool {
+        self.odd_one_in < 100
+    }
+
+    /// In a long episode only such as leave numbers, so that the rest of it means something.
+    fn zero_sums(&self) -> ZeroSums {
+        match (self.is_short(), self.life.outlives_zero_sums) {
+            (true, _) => ZeroSums::All,
+            (false, true) => ZeroSums::Opposite,
+            (false, false) => ZeroSums::None,
+        }
     }
 
     fn next_shape(&mut self, r: &mut Random) -> Shape {
@@ -83,7 +100,7 @@ impl Episode {
         }
         self.left -= 1;
         // In a short episode every call has to come soon.
-        let seldom_one_in = if self.odd_one_in < 100 { 3 } else { 16 };
+        let seldom_one_in = if self.is_short() { 3 } else { 16 };
         let shapes = if r.once_in(seldom_one_in) { self.life.seldom } else { self.life.often };
         r.one_of(shapes)
     }

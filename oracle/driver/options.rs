@@ -3,6 +3,8 @@
 use crate::parts::{Part, ALL};
 use std::process::exit;
 
+/// So many lines are compared unless the options say otherwise.
+pub const COMPARED_LINES: u64 = 10_000_000;
 /// A run with `--quick` is always the same.
 const QUICK_LINES: u64 = 300_000;
 const QUICK_SEED: u64 = 1;

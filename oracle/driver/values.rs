@@ -72,6 +72,11 @@ pub fn dyadic(r: &mut Random) -> u32 {
     ((r.below(257) as f32 - 128.0) / 8.0).to_bits()
 }
 
+/// A number from 2^low to 2^high.
+pub fn positive(r: &mut Random, low: i32, high: i32) -> f32 {
+    (1.5 + r.unit() / 2.0) * 2f32.powi(low + r.below((high - low) as usize) as i32)
+}
+
 /// A NaN: quiet or signalling, of either sign, with any payload.
 pub fn nan(r: &mut Random) -> u32 {
     let payload = match r.below(4) {

@@ -3,14 +3,13 @@
 use driver::generator::Generator;
 use driver::known::{is_known, KNOWN};
 use driver::lines::Lines;
-use driver::options::Options;
+use driver::options::{Options, COMPARED_LINES};
 use driver::protocol::Driver;
 use std::io::{Result, Write};
 use std::process::{exit, ChildStdin, ChildStdout, Command, Stdio};
 use std::sync::mpsc::{channel, Receiver, Sender};
 use std::thread;
 
-const DEFAULT_LINES: u64 = 10_000_000;
 /// Lines go to the program and to the comparison in runs of about so many bytes.
 const RUN: usize = 1 << 16;
 
@@ -34,7 +33,7 @@ struct Difference {
 }
 
 fn main() -> Result<()> {
-    let options = Options::read(DEFAULT_LINES);
+    let options = Options::read(COMPARED_LINES);
     println!("seed {}, {} lines, {}", options.seed, options.lines, options.calls);
     let mut calls = Command::new(&options.calls)
         .stdin(Stdio::piped())

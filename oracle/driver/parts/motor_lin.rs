@@ -37,6 +37,7 @@ const LIFE: Life = Life {
     begin: &[&[("new", "lam")], &[("state", "lamm")]],
     often: &[("command_to_force", "c"), ("force_to_command", "c")],
     seldom: &[("new", "lam"), ("new", "lam"), ("min_force", ""), ("max_force", ""), ("show", "")],
+    outlives_zero_sums: false,
 };
 
 pub fn lines() -> Box<Maker> {

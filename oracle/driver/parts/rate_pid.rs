@@ -53,7 +53,7 @@ fn update(pid: &mut RatePid, x: &Operands, to: &mut Answer) {
 
 const LIFE: Life = Life {
     name: "rate_pid",
-    begin: &[&[("new", "gggtd")], &[("new", "gggtd"), ("slew", "l")], &[("state", "gggxxxxxxxdbtdxaatdxaatdxaablxd")]],
+    begin: &[&[("new", "gggtd")], &[("new", "gggtd"), ("slew", "l")], &[("state", "gggxxxxxxxdbtdxaatdxaaojxaablxi")]],
     often: &[("update", "yyx"), ("update", "yyx"), ("update_in_place", "yyx")],
     seldom: &[
         ("set_ts", "d"),
@@ -66,6 +66,7 @@ const LIFE: Life = Life {
         ("show", ""),
         ("slew", "l"),
     ],
+    outlives_zero_sums: true,
 };
 
 pub fn lines() -> Box<Maker> {

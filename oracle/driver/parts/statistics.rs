@@ -29,6 +29,7 @@ const LIFE: Life = Life {
     begin: &[&[("new", "s")], &[("new", "s")], &[("state", "bsxa")]],
     often: &[("add_sample", "x"), ("add_sample", "x"), ("mean_var", ""), ("std_dev", "")],
     seldom: &[("show", "")],
+    outlives_zero_sums: false,
 };
 
 pub fn lines() -> Box<Maker> {

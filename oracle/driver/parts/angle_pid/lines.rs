@@ -10,9 +10,9 @@ const LIFE: Life = Life {
         &[("new", "gggbd"), ("set_wrapping", "w"), ("set_anti_windup", "r"), ("set_lp_filter", "p")],
         &[("with_config", "gggbbwbrbrbpd")],
         &[("with_config", "gggbbwbrbrbpd")],
-        &[("state", "gggdxbxbwbrbrbpdxaa")],
+        &[("state", "gggdxbxbwbrbrbpjxaa")],
     ],
-    often: &[("update", "e"), ("update", "e"), ("update_ts", "ed")],
+    often: &[("update", "e"), ("update", "e"), ("update_ts", "ei")],
     seldom: &[
         ("set_wrapping", "w"),
         ("set_output_limit", "r"),
@@ -25,6 +25,7 @@ const LIFE: Life = Life {
         ("enable_reset_integral", "b"),
         ("show", ""),
     ],
+    outlives_zero_sums: true,
 };
 
 pub fn lines() -> Box<Maker> {

@@ -6,15 +6,15 @@ use crate::life::{lives, Life};
 const LANE: Life = Life {
     name: "bank",
     begin: &[
-        &[("close", "L"), ("open", "Lgggtd")],
-        &[("close", "L"), ("open", "Lgggtdl")],
-        &[("state", "Lbgggxxxxxxxdbtdxaatdxaatdxaablxd")],
+        &[("close", "L"), ("open", "LgggTd")],
+        &[("close", "L"), ("open", "LgggTdl")],
+        &[("state", "Lbgggxxxxxxxdbtdxaatdxaaojxaablxi")],
         &[("close", "L")],
     ],
     often: &[("update", "Lyyx")],
     seldom: &[
-        ("open", "Lgggtd"),
-        ("open", "Lgggtdl"),
+        ("open", "LgggTd"),
+        ("open", "LgggTdl"),
         ("set_ts", "Ld"),
         ("set_gains", "Lggg"),
         ("enable_integral", "Lb"),
@@ -24,6 +24,7 @@ const LANE: Life = Life {
         ("show", "L"),
         ("show", "L"),
     ],
+    outlives_zero_sums: true,
 };
 
 pub fn lines() -> Box<Maker> {

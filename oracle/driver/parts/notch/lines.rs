@@ -8,6 +8,7 @@ const NOTCH: Life = Life {
     begin: &[&[("new", "f")], &[("new", "f")], &[("state", "fqxxxxxx")]],
     often: &[("update", "x")],
     seldom: &[("set_freq_center", "k"), ("set_freq_bandwidth", "v"), ("show", "")],
+    outlives_zero_sums: false,
 };
 
 /// The kinds of the fields of three.
@@ -37,6 +38,7 @@ const NOTCHES: Life = Life {
     ],
     often: &[("run", "u")],
     seldom: &[("show", "")],
+    outlives_zero_sums: false,
 };
 
 pub fn lines() -> Box<Maker> {
