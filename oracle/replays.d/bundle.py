@@ -6,7 +6,7 @@ import sys
 
 import numpy as np
 
-from cases import HOLE, KINDS, VERSIONS, cells, header_ends, settings, written
+from cases import HOLE, KINDS, VERSIONS, about_zero, cells, header_ends, settings, written
 
 
 def text_as(file, at, old, new):
@@ -76,6 +76,16 @@ def files():
     # NaN of many patterns, infinities, the smallest and the largest.
     odd = np.array([0x7FC00000, 0xFFC00001, 0x7F800001, 0x7F800000, 0xFF800000, 1, 0x80000001, 0x7F7FFFFF, 0x80000000], dtype="<u4").view("<f4")
     yield one + written(odd.reshape(3, 3), (1, 0))
+    # Request W4: lanes about its rule, with an ordinary one beside them, first, between or last; one lane alone; and eight.
+    zeros, opposite, damping, nearly = about_zero(np.float32(0.5))
+    ordinary = [(0.005, 0.01)]
+    for kind in KINDS:
+        for times in (ordinary + zeros, opposite[:1] + ordinary + opposite[1:], damping + nearly + ordinary, opposite[:1], opposite + damping + ordinary + zeros[:3]):
+            rng = random.Random(f"sum of zero {kind} {len(times)}")
+            trace = np.array([[rng.randint(-900, 900) for _ in range(3 * len(times))] for _ in range(12)], dtype="<i2")
+            gains = [[rng.uniform(0.2, 2), rng.uniform(0.2, 2), rng.uniform(0.01, 0.1)] for _ in times]
+            lanes = np.array([three + list(pair) for three, pair in zip(gains, times)], dtype="<f4")
+            yield written(lanes, (1, 0)) + written(trace if kind == "<i2" else (trace / 1000).astype("<f4"), (1, 0))
 
 
 def main():

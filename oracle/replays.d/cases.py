@@ -35,6 +35,33 @@ def settings(rng, lanes):
     return np.array(rows, dtype="<f4")
 
 
+def about_zero(dt):
+    """Pairs of tau and dt about request W4's rule: tau + dt is zero, tau * 10 + dt (of the damping filter), or neither but nearly."""
+    with np.errstate(all="ignore"):
+        ten = np.float32(10) * dt
+    zeros = [(0.0, 0.0), (-0.0, -0.0), (0.0, -0.0), (-0.0, 0.0)]
+    opposite = [(-dt, dt), (dt, -dt)]
+    damping = [(-dt, ten), (dt, -ten)]
+    nearly = [(np.nextafter(-dt, np.float32(0)), dt), (dt, np.nextafter(-dt, np.float32("-inf"))), (1e-45, 0.0), (-0.0, 1e-45)]
+    return zeros, opposite, damping, nearly
+
+
+def with_zero_sums(rng, rows):
+    """Settings in which about one lane in six is about the rule, mostly with a sum of zero."""
+    for row in rows:
+        if rng.random() < 1 / 6:
+            zeros, opposite, damping, nearly = about_zero(row[4])
+            row[3:] = rng.choice(rng.choice([zeros, opposite, opposite, damping, nearly]))
+    return rows
+
+
+def has_zero_sum(file):
+    """Whether tau + dt is zero in a lane of the settings."""
+    rows = np.load(io.BytesIO(file))
+    with np.errstate(all="ignore"):
+        return bool((rows[:, 3] + rows[:, 4] == 0).any())
+
+
 def cells(rng, kind, rows, lanes):
     if kind == "<i2":
         numbers = np.array([rng.choice([rng.randint(-1500, 1500), rng.randint(-32768, 32767)]) for _ in range(rows * lanes * 3)], dtype="<i2")
@@ -81,7 +108,7 @@ def good(rng):
     trace = cells(rng, kind, rows, lanes)
     if kind == "<i2" and 0 < rows and rng.random() < 0.9:
         trace = with_holes(rng, trace)
-    return written(settings(rng, lanes), first) + written(trace, second)
+    return written(with_zero_sums(rng, settings(rng, lanes)), first) + written(trace, second)
 
 
 def header_ends(file):
@@ -104,7 +131,7 @@ def small(rng):
     trace = cells(rng, kind, rng.randint(1, 3), lanes)
     if kind == "<i2" and rng.random() < 0.5:
         trace = with_holes(rng, trace)
-    return written(settings(rng, lanes), first) + written(trace, second)
+    return written(with_zero_sums(rng, settings(rng, lanes)), first) + written(trace, second)
 
 
 def lies(rng, file):

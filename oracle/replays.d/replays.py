@@ -9,7 +9,7 @@ import subprocess
 import sys
 import threading
 
-from cases import HOLE, as_floats, damaged, good, read_trace
+from cases import HOLE, as_floats, damaged, good, has_zero_sum, read_trace
 
 
 def answer(program, file):
@@ -64,7 +64,7 @@ def main():
     o = options.parse_args()
     rng = random.Random(o.seed)
     differ = 0
-    two_bytes, with_holes = 0, 0
+    two_bytes, with_holes, zero_sums = 0, 0, 0
     for name, count, maker in (("written by NumPy", o.files, None), ("damaged", o.damaged, damaged(rng))):
         ends = collections.Counter()
         for i in range(count):
@@ -72,6 +72,7 @@ def main():
             want, got = answer(o.rust, file), answer(o.program, file)
             ends[ended(want)] += 1
             same = want == got
+            zero_sums += not maker and has_zero_sum(file)
             if not maker and (trace := read_trace(file)).dtype == "<i2":
                 # The cell rule once more, apart from the Rust's program: NumPy makes the numbers.
                 two_bytes += 1
@@ -86,6 +87,7 @@ def main():
         print(f"{name}: {count} files, " + ", ".join(f"{n} {end}" for end, n in sorted(ends.items())))
         if not maker:
             print(f"of these <i2: {two_bytes} files, {with_holes} with holes, each replayed as <f4 too")
+            print(f"of these with a lane whose tau + dt is zero: {zero_sums} files")
     pool = damaged(rng)
     for i in range(o.pieces):
         file = good(rng) if i % 2 else next(itertools.islice(pool, rng.randrange(300), None))
