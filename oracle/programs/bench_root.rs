@@ -1,5 +1,5 @@
 //! The time of one root and of the two calls that take one: the hardware's or the Rust's, ours before and ours now. 'Before' is
-//! another library of ours, which `oracle/before_root` builds.
+//! another library of ours, which `oracle/before` builds.
 
 mod timing;
 

@@ -52,6 +52,6 @@ pub fn compare(what: &str, settings: &[f32], cells: &[f32], runs: &[(&str, Run)]
     for (k, (name, _)) in runs.iter().enumerate() {
         let ratio = middle(k) / middle(0);
         let (time, shortest) = (middle(k), times[k][0]);
-        println!("{name:10} {time:6.2} ns {what} (middle of {TURNS} turns; shortest {shortest:.2}), {ratio:.2} times the {}'s", runs[0].0);
+        println!("{name:16} {time:6.2} ns {what} (middle of {TURNS} turns; shortest {shortest:.2}), {ratio:.2} times the {}'s", runs[0].0);
     }
 }
