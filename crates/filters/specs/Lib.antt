@@ -1,10 +1,13 @@
 pub mod Complementary
+pub mod ComplementaryLaws
 pub mod Highpass
 pub mod Integrating
 pub mod IntegratingComplementary
 pub mod IntegratingHighpass
 pub mod Lowpass
 pub mod Lowpass2
+pub mod Lowpass2Laws
+pub mod LowpassLaws
 pub mod MovingAverage
 pub mod MovingAverageLaws
 pub mod SlewRate

@@ -48,6 +48,14 @@ ne-self x = go (ne x x) refl
     go true h = h ∙ sym (ap isNan (nan-of x h))
     go false h = h ∙ sym (not-nan x h)
 
+pub eq-self : (x : Float) → isNan x ≡ false → eq x x ≡ true
+unfolding ne
+eq-self x h = go (eq x x) (ne-self x ∙ h)
+  where
+    go : (b : Bool) → not b ≡ false → b ≡ true
+    go true k = refl
+    go false k = absurd (true≢false k)
+
 -- what is below or above something is no NaN
 pub lt-left : (a b : Float) → lt a b ≡ true → isNan a ≡ false
 unfolding lt isNan
@@ -103,6 +111,14 @@ pub zero-fits : (s : Bool) (e : ℤ) → fits binary32 (fin s 0 e) ≡ true → 
 unfolding fits
 zero-fits s e f = unit-exponent e (subst T (sym f) tt)
 
+pub zero-is : (x : Float) → fits binary32 x ≡ true → eq x F.zero ≡ true → (s : Bool) × (x ≡ fin s 0 (pos 0))
+unfolding eq ofBits
+zero-is nan f h = absurd (true≢false (sym h))
+zero-is (inf s) f h = absurd (true≢false (sym h))
+zero-is (fin s m e) f h =
+    let z : fin s m e ≡ fin s 0 e = ap (λ (n : ℕ). fin s n e) (eq-zero s m e h) in
+    (s, z ∙ ap (fin s 0) (zero-fits s e (sym (ap (fits binary32) z) ∙ f)))
+
 -- two zeros are level, whatever their signs
 zeros-level : (s t : Bool) (a b : ℕ) → a ≡ 0 → b ≡ 0 → level s a t b ≡ true
 zeros-level true true a b p q = simp (p, q)
@@ -113,6 +129,10 @@ zeros-level false false a b p q = simp (p, q)
 pub zero-equals : (s : Bool) (e : ℤ) → eq (fin s 0 e) F.zero ≡ true
 unfolding eq ofBits
 zero-equals s e = zeros-level s false (0 * up e * 1) (0 * down e) (omega arith) (omega arith)
+
+pub zeros-equal : (s t : Bool) → eq (fin s 0 (pos 0)) (fin t 0 (pos 0)) ≡ true
+unfolding eq
+zeros-equal s t = zeros-level s t 0 0 refl refl
 
 -- a number without a sign that is no zero is above zero
 pub above-zero : (m : ℕ) (e : ℤ) → lt F.zero (fin false (suc m) e) ≡ true

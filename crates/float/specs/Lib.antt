@@ -1,3 +1,4 @@
 pub mod F32
 pub mod Float
 pub mod FloatLaws
+pub mod OperationLaws

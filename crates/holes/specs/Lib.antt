@@ -1,2 +1,3 @@
+pub mod DtZeroInTrace
 pub mod NanInUpdate
 pub mod HoleInTrace

@@ -4,9 +4,10 @@ use mathlib.Core.Path.{_≡_, refl, ap, _∙_}
 use mathlib.Core.Bool.{Bool, true, false}
 use mathlib.Core.Logic.{_⊎_, inl, inr}
 use lib.Ieee as Ieee
-use lib.Ieee.{Float, nan, inf, fin}
-use Rattle.float.specs.F32.{_+f_, _-f_, _*f_, _/f_}
+use lib.Ieee.{Float, nan}
+use Rattle.float.specs.F32.{_-f_}
 use Rattle.float.specs.FloatLaws.{clamp-nan}
+use Rattle.float.specs.OperationLaws.{add-nan, nan-add, sub-nan, nan-sub, mul-nan, nan-mul, nan-div}
 use Rattle.filters.specs.Lowpass.{stepLowpass}
 use Rattle.filters.specs.Lowpass2.{stepLowpass2}
 use Rattle.rate_pid.specs.declared.RatePid.{RatePid}
@@ -15,40 +16,6 @@ use Rattle.rate_pid.specs.declared.slew.Slew.the-variants.{Off}
 use Rattle.rate_pid.specs.Slew.{stepSlew}
 use Rattle.rate_pid.specs.RatePidLaws.{not-calm}
 use Rattle.rate_pid.specs.RatePid.{slewedOf, filteredOf, dGainOf, refDerivativeOf, measDerivativeOf, calmOf, dampedOf, dampingOf, grownOf, integrated, integratedOf, termsOf, stepRatePid, totalOf}
-
--- ---- NaN passes through each operation
-
-add-nan : (x : Float) → x +f nan ≡ nan
-unfolding Ieee.add
-add-nan nan = refl
-add-nan (inf s) = refl
-add-nan (fin s m e) = refl
-
-nan-add : (x : Float) → nan +f x ≡ nan
-unfolding Ieee.add
-nan-add x = refl
-
-sub-nan : (x : Float) → x -f nan ≡ nan
-unfolding Ieee.sub Ieee.neg
-sub-nan x = add-nan x
-
-nan-sub : (x : Float) → nan -f x ≡ nan
-unfolding Ieee.sub Ieee.add
-nan-sub x = refl
-
-mul-nan : (x : Float) → x *f nan ≡ nan
-unfolding Ieee.mul
-mul-nan nan = refl
-mul-nan (inf s) = refl
-mul-nan (fin s m e) = refl
-
-nan-mul : (x : Float) → nan *f x ≡ nan
-unfolding Ieee.mul
-nan-mul x = refl
-
-nan-div : (x : Float) → nan /f x ≡ nan
-unfolding Ieee.div
-nan-div x = refl
 
 -- ---- what stays
 

@@ -1,0 +1,38 @@
+-- A lane whose sample time is zero prints no finite number, in any row: its low passes are off, but kd is still divided by dt. Assumes
+-- nothing.
+use mathlib.Core.Path.{_≡_, refl, ap, _∙_}
+use mathlib.Core.List.{List}
+use mathlib.Core.Bool.{true, false}
+use Prim.Native.Nat.{ℕ, zero, suc, _<_}
+use lib.Ieee.{Float, nan, eq}
+use lib.Ieee.Scale.{finite}
+use lib.ListN.{getD}
+use Rattle.float.specs.F32 as F
+use Rattle.refusal.specs.Refusal.{passes}
+use Rattle.rate_pid.specs.declared.RatePid.{RatePid}
+use Rattle.rate_pid.specs.RatePid.{newRatePid}
+use Rattle.rate_pid.specs.SwitchedOffLaws.{dt-zero}
+use Rattle.npy.specs.declared.reader.Kind.{Kind}
+use Rattle.npy.specs.declared.reader.Kind.the-variants.{F4}
+use Rattle.npy.specs.Lines.{wordOf}
+use Rattle.bank.specs.Single.{one, callSingle}
+use Rattle.trace.specs.LanesInTurn.{readEach}
+use Rattle.trace.specs.Trace.{callStart}
+use Rattle.trace.specs.Taken.{CanTake, updateOf}
+use Rattle.trace.specs.AcceptedStart.{bytesAfterStart}
+use Rattle.trace.specs.LaneText.{singleValues, laneUpdate, laneUpdates}
+use Rattle.trace.specs.LaneCells.{cellAt, controllerAt, settingsOf, lanesOf, cellKindOf}
+use Rattle.trace.specs.ColumnTheorem.{printedWord, column-theorem}
+
+module _ (kind : Kind) (k L : ℕ) where
+  values-unfinite : (n r : ℕ) (s : RatePid) (bytes : List ℕ) → eq (s .dt) F.zero ≡ true → finite (getD (singleValues (one s) (laneUpdates kind k L n bytes)) r nan) ≡ false
+  unfolding singleValues laneUpdates readEach laneUpdate updateOf callSingle
+  values-unfinite zero r s bytes h = refl
+  values-unfinite (suc n) zero s bytes h = dt-zero s _ _ _ h .0
+  values-unfinite (suc n) (suc r) s bytes h = values-unfinite n r _ _ (ap (λ (dt : Float). eq dt F.zero) (dt-zero s _ _ _ h .1) ∙ h)
+
+-- the dt of lane L's settings is a zero: what it prints in any row is no finite number's digits
+pub dt-zero-prints : (s : List ℕ) (m L r : ℕ) → passes (callStart s .refusal) ≡ true → CanTake m (callStart s .course) (bytesAfterStart s) → L < lanesOf s → r < m
+    → eq (cellAt F4 5 (settingsOf s) L 4) F.zero ≡ true → (y : Float) × (printedWord s L r ≡ wordOf y) × (finite y ≡ false)
+unfolding controllerAt newRatePid
+dt-zero-prints s m L r a t l h e = (_, column-theorem s m L r a t l h, values-unfinite (cellKindOf s) (lanesOf s) L m r _ (bytesAfterStart s) e)
