@@ -62,7 +62,7 @@ same-bits : (f : Format) (s : Bool) (m n : ℕ) (e d : ℤ) → m * up e * down 
 unfolding toBits
 same-bits f s m n e d h =
     let q : m * up e * 2 ^ low f / down e ≡ n * up d * 2 ^ low f / down d = div-same (m * up e * 2 ^ low f) (down e) (n * up d * 2 ^ low f) (down d) (down-pos e) (down-pos d)
-        (mul-right-comm (m * up e) (2 ^ low f) (down d) ∙ ap (λ (x : ℕ). x * 2 ^ low f) h ∙ mul-right-comm (n * up d) (down e) (2 ^ low f)) in
+    (mul-right-comm (m * up e) (2 ^ low f) (down d) ∙ ap (λ (x : ℕ). x * 2 ^ low f) h ∙ mul-right-comm (n * up d) (down e) (2 ^ low f)) in
     ap (λ (x : ℕ). cond s (top f) 0 + (size x - prec f) * hid f + x / 2 ^ (size x - prec f)) q
 
 written-once : (f : Format) (s : Bool) (m n : ℕ) (e d : ℤ) → T (fits f (fin s m e)) → T (fits f (fin s n d)) → m * up e * down d ≡ n * up d * down e → fin s m e ≡ fin s n d
