@@ -6,12 +6,17 @@ use lib.Ieee as Ieee
 use lib.Ieee.{Float, nan, inf, fin, eq, ofBits}
 use lib.Ieee.Scale.{finite}
 use Rattle.float.specs.F32 as F
-use Rattle.float.specs.F32.{_+f_, _-f_, _*f_}
+use Rattle.float.specs.F32.{_+f_, _-f_, _*f_, _/f_}
 use Rattle.float.specs.OperationLaws.{add-nan, nan-add, mul-nan, div-zero, unfinite-mul, unfinite-add, add-unfinite}
 use Rattle.filters.specs.declared.complementary.Complementary.{Complementary}
 use Rattle.filters.specs.LowpassLaws.{Off, sum-zero-off, new-passing, set-dt-off, set-tau-off}
 use Rattle.filters.specs.Highpass.{highpassOf, newHighpass, setDtHighpass, setTauHighpass, stepHighpass}
 use Rattle.filters.specs.Complementary.{newComplementary, setDtComplementary, setTauComplementary, stepComplementary}
+
+-- the high pass has the Rust's formula, whatever tau and dt are
+pub highpass-alpha : (tau dt y xPrev : Float) → highpassOf tau dt y xPrev .alpha ≡ tau /f (tau +f dt)
+unfolding highpassOf
+highpass-alpha tau dt y xPrev = refl
 
 -- its low pass is off, and its high pass has an alpha that is an infinity or NaN
 abbrev pub HalfOff : Complementary → Type 0

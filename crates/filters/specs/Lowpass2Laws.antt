@@ -12,7 +12,7 @@ use Rattle.float.specs.F32.{_+f_, _*f_}
 use Rattle.float.specs.Float.{negative}
 use Rattle.float.specs.FloatLaws.{eq-self, zero-is, zeros-equal}
 use Rattle.filters.specs.declared.lowpass2.NthOrderLowpass.{NthOrderLowpass}
-use Rattle.filters.specs.Lowpass.{lowpassOf, stepLowpass}
+use Rattle.filters.specs.Lowpass.{lowpassOf, setDtLowpass, setTauLowpass, stepLowpass}
 use Rattle.filters.specs.Lowpass2.{newLowpass2, setDtLowpass2, configureLowpass2, stepLowpass2}
 use Rattle.filters.specs.LowpassLaws.{Off, Passing, new-passing, set-dt-off, set-tau-off, passed, off-answers, off-leaves, nan-in, passed-same, passed-zero, answer-finite, goes-on, is-lost, stays-lost}
 
@@ -39,6 +39,15 @@ set-dt-off2 s dt h k = (set-dt-off (s .first) dt h .0, set-dt-off (s .second) dt
 pub configure-off2 : (s : NthOrderLowpass) (tau : Float) → eq (tau +f s .first .dt) F.zero ≡ true → eq (tau +f s .second .dt) F.zero ≡ true → Off2 (configureLowpass2 s tau)
 unfolding configureLowpass2
 configure-off2 s tau h k = (set-tau-off (s .first) tau h .0, set-tau-off (s .second) tau k .0)
+
+-- and keep both last answers, so switching off heals neither
+pub set-dt-keeps2 : (s : NthOrderLowpass) (dt : Float) → (setDtLowpass2 s dt .first .y ≡ s .first .y) × (setDtLowpass2 s dt .second .y ≡ s .second .y)
+unfolding setDtLowpass2 setDtLowpass lowpassOf
+set-dt-keeps2 s dt = (refl, refl)
+
+pub configure-keeps2 : (s : NthOrderLowpass) (tau : Float) → (configureLowpass2 s tau .first .y ≡ s .first .y) × (configureLowpass2 s tau .second .y ≡ s .second .y)
+unfolding configureLowpass2 setTauLowpass lowpassOf
+configure-keeps2 s tau = (refl, refl)
 
 -- what the second stage makes of what the first one passed
 passed-twice : (x y z : Float) → T (fits binary32 x) → finite y ≡ true → finite z ≡ true → isNan x ≡ false → eq (passed (passed x y) z) x ≡ true

@@ -13,7 +13,7 @@ use Rattle.float.specs.F32 as F
 use Rattle.float.specs.F32.{_+f_, _-f_, _*f_, _/f_}
 use Rattle.float.specs.Float.{negative}
 use Rattle.float.specs.FloatLaws.{eq-self, zero-is, zero-equals, zeros-equal, zero-fits}
-use Rattle.float.specs.OperationLaws.{add-nan, nan-add, mul-nan, one-mul, zero-mul, zero-mul-unfinite, add-zero, zero-add, zeros-add, self-div}
+use Rattle.float.specs.OperationLaws.{add-nan, nan-add, mul-nan, one-mul, zero-mul, zero-mul-unfinite, add-zero, zero-add, zeros-add, opposite-add, self-div}
 use Rattle.filters.specs.declared.lowpass.Lowpass.{Lowpass}
 use Rattle.filters.specs.Lowpass.{alpha0Of, lowpassOf, newLowpass, setDtLowpass, setTauLowpass, stepLowpass}
 
@@ -35,6 +35,11 @@ alpha-one-off tau dt y h = (h, ap (λ (a : Float). F.one -f a) h ∙ one-less-on
 pub sum-zero-off : (tau dt y : Float) → eq (tau +f dt) F.zero ≡ true → Off (lowpassOf tau dt y)
 unfolding alpha0Of
 sum-zero-off tau dt y h = alpha-one-off tau dt y (simp h)
+
+-- as it is where tau is the opposite of a finite dt
+pub opposite-off : (dt y : Float) → finite dt ≡ true → Off (lowpassOf (Ieee.neg dt) dt y)
+unfolding ofBits
+opposite-off dt y h = sum-zero-off (Ieee.neg dt) dt y (ap (λ (x : Float). eq x F.zero) (opposite-add dt h) ∙ zero-equals false (pos 0))
 
 -- everywhere else the coefficients are the Rust's
 pub sum-not-zero : (tau dt y : Float) → eq (tau +f dt) F.zero ≡ false
@@ -96,7 +101,7 @@ module _ (s : Lowpass) (off : Off s) where
 
 -- ---- what that means
 
--- after a finite answer it is x itself, bit by bit, NaN and infinities too, unless x is a zero
+-- after a finite answer it is x itself, NaN and infinities too, unless x is a zero
 pub passed-same : (x y : Float) → finite y ≡ true → eq x F.zero ≡ false → passed x y ≡ x
 unfolding passed eq ofBits
 passed-same x nan h n = absurd (true≢false (sym h))

@@ -1,7 +1,7 @@
 -- Laws of binary32's operations: NaN passes through each; where one changes nothing; where its answer cannot be finite. Assumes nothing.
 use mathlib.Core.Path.{_≡_, refl, sym, ap, _∙_, subst}
-use mathlib.Core.Logic.{inl, inr}
-use mathlib.Core.Bool.{Bool, true, false, cond, _&&_, true≢false}
+use mathlib.Core.Logic.{_⊎_, inl, inr}
+use mathlib.Core.Bool.{Bool, true, false, cond, not, _&&_, true≢false}
 use Prim.Native.Nat.{ℕ, zero, suc, _+_, _-_, _*_, _/_, _%_, _<_, _≤_, _^_}
 use native.Mathlib.Omega.{arith}
 use native.Mathlib.Nat.{lt-of-mul-lt-mul-right, mul-lt-mul-of-pos-right, mul-one, sub-add-cancel, mul-pos, mul-comm, mul-assoc, mul-right-comm, zero-lt-suc}
@@ -181,6 +181,18 @@ zeros-add true false = refl
 zeros-add false true = refl
 zeros-add false false = refl
 
+-- a finite number and its opposite
+sum-opposite : (f : Format) (s : Bool) (a c : ℕ) → 0 < c → Ieee.sum f (not s) a s a c ≡ fin false 0 (pos 0)
+unfolding Ieee.sum
+sum-opposite f true a c h = rw (le-ltb a a (omega arith)) (round-zero f false (a - a) c (omega arith) h)
+sum-opposite f false a c h = rw (le-ltb a a (omega arith)) (round-zero f false (a - a) c (omega arith) h)
+
+pub opposite-add : (x : Float) → finite x ≡ true → Ieee.neg x +f x ≡ F.zero
+unfolding Ieee.add Ieee.neg ofBits
+opposite-add nan h = absurd (true≢false (sym h))
+opposite-add (inf s) h = absurd (true≢false (sym h))
+opposite-add (fin s m e) h = sum-opposite binary32 s (m * up e * down e) (down e * down e) (mul-pos (down-pos e) (down-pos e))
+
 -- ---- a number divided by itself
 
 pub self-div : (s : Bool) (m : ℕ) (e : ℤ) → fin s (suc m) e /f fin s (suc m) e ≡ F.one
@@ -192,6 +204,11 @@ self-div s m e = rw (eqb·suc-zero m, alike s) (round-value binary32 false 1 (po
     alike false = refl
 
 -- ---- what is not finite
+
+pub unfinite-is : (x : Float) → finite x ≡ false → (x ≡ nan) ⊎ ((s : Bool) × (x ≡ inf s))
+unfinite-is nan h = inl refl
+unfinite-is (inf s) h = inr (s, refl)
+unfinite-is (fin s m e) h = absurd (true≢false h)
 
 -- an infinity or NaN times anything, and plus anything
 pub unfinite-mul : (x y : Float) → finite x ≡ false → finite (x *f y) ≡ false

@@ -1,13 +1,14 @@
--- A lane whose sample time is zero prints no finite number, in any row: its low passes are off, but kd is still divided by dt. Assumes
--- nothing.
+-- A lane whose sample time is zero prints NaN or an infinity in every row, whatever its tau: kd is divided by dt. Assumes nothing.
 use mathlib.Core.Path.{_≡_, refl, ap, _∙_}
 use mathlib.Core.List.{List}
-use mathlib.Core.Bool.{true, false}
+use mathlib.Core.Bool.{Bool, true, false}
+use mathlib.Core.Logic.{_⊎_, inl, inr}
 use Prim.Native.Nat.{ℕ, zero, suc, _<_}
-use lib.Ieee.{Float, nan, eq}
+use lib.Ieee.{Float, nan, inf, eq}
 use lib.Ieee.Scale.{finite}
 use lib.ListN.{getD}
 use Rattle.float.specs.F32 as F
+use Rattle.float.specs.OperationLaws.{unfinite-is}
 use Rattle.refusal.specs.Refusal.{passes}
 use Rattle.rate_pid.specs.declared.RatePid.{RatePid}
 use Rattle.rate_pid.specs.RatePid.{newRatePid}
@@ -31,8 +32,13 @@ module _ (kind : Kind) (k L : ℕ) where
   values-unfinite (suc n) zero s bytes h = dt-zero s _ _ _ h .0
   values-unfinite (suc n) (suc r) s bytes h = values-unfinite n r _ _ (ap (λ (dt : Float). eq dt F.zero) (dt-zero s _ _ _ h .1) ∙ h)
 
--- the dt of lane L's settings is a zero: what it prints in any row is no finite number's digits
+-- a number that is not finite, by its digits
+digits-unfinite : (w : List ℕ) (y : Float) → w ≡ wordOf y → finite y ≡ false → (w ≡ wordOf nan) ⊎ ((b : Bool) × (w ≡ wordOf (inf b)))
+digits-unfinite w y e h = elim (unfinite-is y h) [ inl n ↦ inl (e ∙ ap wordOf n) | inr (b, n) ↦ inr (b, e ∙ ap wordOf n) ]
+
+-- the dt of lane L's settings is a zero: what it prints in a row are the digits of NaN or of an infinity
 pub dt-zero-prints : (s : List ℕ) (m L r : ℕ) → passes (callStart s .refusal) ≡ true → CanTake m (callStart s .course) (bytesAfterStart s) → L < lanesOf s → r < m
-    → eq (cellAt F4 5 (settingsOf s) L 4) F.zero ≡ true → (y : Float) × (printedWord s L r ≡ wordOf y) × (finite y ≡ false)
+    → eq (cellAt F4 5 (settingsOf s) L 4) F.zero ≡ true → (printedWord s L r ≡ wordOf nan) ⊎ ((b : Bool) × (printedWord s L r ≡ wordOf (inf b)))
 unfolding controllerAt newRatePid
-dt-zero-prints s m L r a t l h e = (_, column-theorem s m L r a t l h, values-unfinite (cellKindOf s) (lanesOf s) L m r _ (bytesAfterStart s) e)
+dt-zero-prints s m L r a t l h e =
+    digits-unfinite (printedWord s L r) _ (column-theorem s m L r a t l h) (values-unfinite (cellKindOf s) (lanesOf s) L m r _ (bytesAfterStart s) e)

@@ -1,10 +1,10 @@
--- Laws of a rate controller with its filters switched off. Where its sample time is zero no answer is finite, since kd is still divided by
--- it. Where the measurement's filter is off, the measurement passes it. Assumes nothing.
+-- Laws of a rate controller with its filters switched off. Where the measurement's filter is off, the measurement passes it. Where the
+-- sample time is zero no answer is finite, whatever the filters are, since kd is still divided by it. Assumes nothing.
 use mathlib.Core.Path.{_≡_, refl, ap, _∙_}
 use mathlib.Core.Bool.{true, false}
 use lib.Dec.{T}
 use lib.IntN.{pos}
-use lib.Ieee.{Float, binary32, unlike, fits, eq, isNan, ofBits}
+use lib.Ieee.{Float, nan, binary32, unlike, fits, eq, isNan, ofBits}
 use lib.Ieee.Bits.{is-true}
 use lib.Ieee.Fits.{mul-fits}
 use lib.Ieee.Scale.{finite}
@@ -13,17 +13,22 @@ use Rattle.float.specs.F32.{_+f_, _-f_, _*f_, _/f_}
 use Rattle.float.specs.FloatLaws.{zero-is, zero-equals}
 use Rattle.float.specs.OperationLaws.{zero-times, div-zero, unfinite-mul, add-unfinite}
 use Rattle.filters.specs.LowpassLaws.{Passing, new-passing, sum-zero-off, tau-zero-off}
-use Rattle.filters.specs.Lowpass2Laws.{Off2, Passing2, new-passing2, set-dt-off2, passes2, goes-on2}
+use Rattle.filters.specs.Lowpass2Laws.{Off2, Passing2, Lost2, new-passing2, set-dt-off2, passes2, goes-on2, is-lost2, stays-lost2}
 use Rattle.rate_pid.specs.declared.RatePid.{RatePid}
-use Rattle.rate_pid.specs.RatePid.{ten, filteredOf, dGainOf, measDerivativeOf, termsOf, stepRatePid, totalOf, newRatePid, setTsRatePid}
+use Rattle.rate_pid.specs.RatePid.{ten, filteredOf, dGainOf, measDerivativeOf, termsOf, stepRatePid, totalOf, newRatePid, setTsRatePid, badRatePid, callUpdateRatePid}
+use Rattle.rate_pid.specs.RatePidLaws.{update-accepted}
 
 -- ---- a sample time of zero
 
--- no update is answered with a finite number, whatever the state, and the sample time stays
+-- no update gives a finite number, from whatever state, and the sample time stays
 pub dt-zero : (s : RatePid) (r m p : Float) → eq (s .dt) F.zero ≡ true
     → (finite (totalOf (stepRatePid s r m p .terms)) ≡ false) × (stepRatePid s r m p .dt ≡ s .dt)
 unfolding stepRatePid termsOf totalOf measDerivativeOf dGainOf
 dt-zero s r m p h = (add-unfinite _ _ (unfinite-mul (s .kd /f s .dt) (s .«prev_meas» -f filteredOf s m) (div-zero (s .kd) (s .dt) h)), refl)
+
+-- so of the call, on every state that is not refused
+pub dt-zero-call : (s : RatePid) (r m p : Float) → badRatePid s ≡ false → eq (s .dt) F.zero ≡ true → finite (callUpdateRatePid s r m p .answer .y) ≡ false
+dt-zero-call s r m p good h = rw (update-accepted s good r m p) (dt-zero s r m p h .0)
 
 -- ---- which filters are off
 
@@ -67,3 +72,12 @@ module _ (s : RatePid) (m : Float) (off : Passing2 (s .«d_lowpass»)) (p : T (f
   pub measurement-goes-on : (r q : Float) → finite m ≡ true → Passing2 (stepRatePid s r m q .«d_lowpass»)
   unfolding stepRatePid
   measurement-goes-on r q k = goes-on2 (s .«d_lowpass») m off p k
+
+  pub measurement-is-lost : (r q : Float) → finite m ≡ false → Lost2 (stepRatePid s r m q .«d_lowpass»)
+  unfolding stepRatePid
+  measurement-is-lost r q k = is-lost2 (s .«d_lowpass») m off p k
+
+-- once an infinity or NaN was measured, the filtered measurement is NaN for good
+pub measurement-stays-lost : (s : RatePid) (r m p : Float) → Lost2 (s .«d_lowpass») → (filteredOf s m ≡ nan) × Lost2 (stepRatePid s r m p .«d_lowpass»)
+unfolding filteredOf stepRatePid
+measurement-stays-lost s r m p lost = stays-lost2 (s .«d_lowpass») m lost
