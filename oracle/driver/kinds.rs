@@ -9,10 +9,10 @@
 //! | e | an error, often some steps away from the last range of kind w |
 //! | t | a time constant, 0 too; at times the negative of the last of kind d |
 //! | T | the same for a lane, which keeps the first where it is open |
-//! | o | the last time constant again |
+//! | o | the last time constant again, of a second filter; at times another |
 //! | p | a time constant above 0; where the last of kind d is below 0, its negative |
 //! | d | a sampling time; at times the negative of the last time constant |
-//! | j | the last of kind d again |
+//! | j | the last of kind d again, of a second filter; at times another |
 //! | i | a sampling time that no time constant has to do with |
 //! | a | a weight from 0 to 1 |
 //! | s | a weight above 0 |
@@ -75,10 +75,10 @@ impl Memory {
             b'x' => r.unit() * 2.0,
             b't' => self.times.tau(r),
             b'T' => self.times.first_tau(r),
-            b'o' => self.times.tau_again(),
+            b'o' => self.times.tau_again(r),
             b'p' => self.times.tau_above_zero(r),
             b'd' => self.times.dt(r),
-            b'j' => self.times.dt_again(),
+            b'j' => self.times.dt_again(r),
             b'i' => sampling_time(r),
             b'a' => r.unit().abs(),
             b's' if r.once_in(16) => 1.0,

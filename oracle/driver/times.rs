@@ -69,13 +69,13 @@ impl Times {
         dt
     }
 
-    /// The last ones again, of a second filter beside the first.
-    pub fn tau_again(&self) -> f32 {
-        self.tau.unwrap_or(0.0)
+    /// Mostly the last ones again, of a second filter beside the first; by hand it may have its own.
+    pub fn tau_again(&self, r: &mut Random) -> f32 {
+        again(r, self.tau, |r| positive(r, -10, 0))
     }
 
-    pub fn dt_again(&self) -> f32 {
-        self.dt.unwrap_or(0.0)
+    pub fn dt_again(&self, r: &mut Random) -> f32 {
+        again(r, self.dt, sampling_time)
     }
 
     /// Anything, or what makes the sum nearly zero.
@@ -113,6 +113,13 @@ pub fn sampling_time(r: &mut Random) -> f32 {
         r.one_of(&[0.25, 0.5, 1.0])
     } else {
         positive(r, -13, -3)
+    }
+}
+
+fn again(r: &mut Random, last: Option<f32>, another: impl FnOnce(&mut Random) -> f32) -> f32 {
+    match last {
+        Some(last) if !r.once_in(4) => last,
+        _ => another(r),
     }
 }
 

@@ -6,7 +6,7 @@ use driver::generator::Generator;
 use driver::options::{Options, COMPARED_LINES};
 use driver::protocol::{word, Driver};
 
-/// Filters of a type that have their tau and dt from the same calls.
+/// Filters of a type that get their tau and dt from the same calls.
 struct Watched {
     name: &'static str,
     calls: &'static [&'static str],

@@ -16,12 +16,12 @@ use Rattle.angle_pid.specs.declared.pid.PidConfig.{PidConfig}
 use Rattle.angle_pid.specs.declared.lp_filter.Tau.the-variants as Tau
 use Rattle.angle_pid.specs.declared.lp_filter.LpFilter.the-variants as LpFilter
 use Rattle.angle_pid.specs.LpFilter.{tauRefusal, newLpFilter, stepLpFilter}
-use Rattle.angle_pid.specs.Pid.{pidRefusal, withParts, withConfigPid, unlessRefused, callSetLpFilterPid}
+use Rattle.angle_pid.specs.Pid.{pidRefusal, configRefusal, withParts, withConfigPid, unlessRefused, callWithConfigPid, callSetLpFilterPid}
 
--- the two calls that make a filter make it with the controller's own sample time
-pub config-makes : (c : PidConfig) (ts : Float) → withConfigPid c ts .«lp_filter» ≡ newLpFilter (c .«lp_filter») ts
-unfolding withConfigPid withParts
-config-makes c ts = refl
+-- the two calls that make a filter, where they are accepted, make it with the controller's own sample time
+pub config-makes : (c : PidConfig) (ts : Float) → configRefusal c ≡ Refusal.None → callWithConfigPid c ts .pid .«lp_filter» ≡ newLpFilter (c .«lp_filter») ts
+unfolding callWithConfigPid unlessRefused withConfigPid withParts RefusalSpecs.passes
+config-makes c ts good = simp good
 
 pub setter-makes : (s : Pid) (tau : Float) → pidRefusal s ≡ Refusal.None → lt F.zero tau ≡ true → callSetLpFilterPid s tau .pid .«lp_filter» ≡ newLpFilter (Tau.On tau) (s .ts)
 unfolding callSetLpFilterPid unlessRefused tauRefusal withParts RefusalSpecs.passes

@@ -1,5 +1,5 @@
 -- Laws of a second-order low pass that is switched off, as those of one low pass (LowpassLaws). Assumes nothing.
-use mathlib.Core.Path.{_≡_, refl, sym, ap, _∙_}
+use mathlib.Core.Path.{_≡_, refl, ap, _∙_}
 use mathlib.Core.Bool.{Bool, true, false, _&&_}
 use mathlib.Core.Logic.{_⊎_, inl, inr}
 use lib.Dec.{T}
@@ -14,16 +14,17 @@ use Rattle.float.specs.FloatLaws.{eq-self, zero-is, zeros-equal}
 use Rattle.filters.specs.declared.lowpass2.NthOrderLowpass.{NthOrderLowpass}
 use Rattle.filters.specs.Lowpass.{lowpassOf, setDtLowpass, setTauLowpass, stepLowpass}
 use Rattle.filters.specs.Lowpass2.{newLowpass2, setDtLowpass2, configureLowpass2, stepLowpass2}
-use Rattle.filters.specs.LowpassLaws.{Off, Passing, new-passing, set-dt-off, set-tau-off, passed, off-answers, off-leaves, nan-in, passed-same, passed-zero, answer-finite, goes-on, is-lost, stays-lost}
+use Rattle.filters.specs.LowpassLaws.{Off, Passing, new-passing, set-dt-off, set-tau-off, passed, off-answers, off-leaves, nan-in, passed-same, passed-zero, answer-finite, goes-on, becomes-lost, stays-lost}
 
 -- both stages are off
 abbrev pub Off2 : NthOrderLowpass → Type 0
 Off2 s = Off (s .first) × Off (s .second)
 
--- and the last answers of both were finite, as those of a new filter are, or one was not
+-- both are off, and the last answers of both are finite, as a new filter's are: numbers pass
 abbrev pub Passing2 : NthOrderLowpass → Type 0
 Passing2 s = Passing (s .first) × Passing (s .second)
 
+-- both are off, and a last answer is an infinity or NaN: NaN for good
 abbrev pub Lost2 : NthOrderLowpass → Type 0
 Lost2 s = Off2 s × ((finite (s .first .y) ≡ false) ⊎ (finite (s .second .y) ≡ false))
 
@@ -77,10 +78,10 @@ module _ (s : NthOrderLowpass) (x : Float) where
   unfolding stepLowpass2
   goes-on2 (one, two) p k = (goes-on (s .first) x one p k, goes-on (s .second) (stepLowpass (s .first) x .y) two first-fits (answer-finite (s .first) x one p ∙ k))
 
-  pub is-lost2 : Passing2 s → T (fits binary32 x) → finite x ≡ false → Lost2 (stepLowpass2 s x .filter)
+  pub becomes-lost2 : Passing2 s → T (fits binary32 x) → finite x ≡ false → Lost2 (stepLowpass2 s x .filter)
   unfolding stepLowpass2
-  is-lost2 (one, two) p k =
-      let lost = is-lost (s .first) x one p k in
+  becomes-lost2 (one, two) p k =
+      let lost = becomes-lost (s .first) x one p k in
       ((lost .0, off-leaves (s .second) (two .0) (stepLowpass (s .first) x .y) .0), inl (lost .1))
 
   pub stays-lost2 : Lost2 s → (stepLowpass2 s x .y ≡ nan) × Lost2 (stepLowpass2 s x .filter)

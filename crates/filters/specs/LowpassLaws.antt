@@ -2,9 +2,9 @@
 -- and what it leaves. An input x `fits` where binary32 holds it, as it holds every f32. Assumes nothing.
 use mathlib.Core.Path.{_≡_, refl, sym, ap, _∙_}
 use mathlib.Core.Bool.{Bool, true, false, cond, _&&_, true≢false}
-use Prim.Native.Nat.{ℕ, zero, suc}
+use Prim.Native.Nat.{zero, suc}
 use lib.Dec.{T}
-use lib.IntN.{ℤ, pos}
+use lib.IntN.{pos}
 use lib.Ieee as Ieee
 use lib.Ieee.{Float, nan, inf, fin, binary32, fits, eq, isNan, ofBits}
 use lib.Ieee.Bits.{is-true}
@@ -13,7 +13,7 @@ use Rattle.float.specs.F32 as F
 use Rattle.float.specs.F32.{_+f_, _-f_, _*f_, _/f_}
 use Rattle.float.specs.Float.{negative}
 use Rattle.float.specs.FloatLaws.{eq-self, zero-is, zero-equals, zeros-equal, zero-fits}
-use Rattle.float.specs.OperationLaws.{add-nan, nan-add, mul-nan, one-mul, zero-mul, zero-mul-unfinite, add-zero, zero-add, zeros-add, opposite-add, self-div}
+use Rattle.float.specs.OperationLaws.{add-nan, nan-add, mul-nan, one-mul, zero-mul, zero-mul-nonfinite, add-zero, zero-add, zeros-add, opposite-add, self-div}
 use Rattle.filters.specs.declared.lowpass.Lowpass.{Lowpass}
 use Rattle.filters.specs.Lowpass.{alpha0Of, lowpassOf, newLowpass, setDtLowpass, setTauLowpass, stepLowpass}
 
@@ -47,7 +47,7 @@ pub sum-not-zero : (tau dt y : Float) → eq (tau +f dt) F.zero ≡ false
 unfolding lowpassOf alpha0Of
 sum-not-zero tau dt y h = (simp h, simp h)
 
--- which are those of a filter that is off too, where tau is zero and dt any other finite number
+-- where tau is zero, a filter is off with every finite dt: with zero by the rule, with every other since dt/dt is 1
 alpha-of-zero-tau : (s : Bool) (dt : Float) → T (fits binary32 dt) → finite dt ≡ true → alpha0Of (fin s 0 (pos 0)) dt ≡ F.one
 unfolding alpha0Of
 alpha-of-zero-tau s nan g k = absurd (true≢false (sym k))
@@ -66,7 +66,7 @@ tau-zero-off tau dt y f g h k =
 
 -- ---- what a filter that is off answers to x, where its last answer was y
 
--- NaN for good after an infinity or NaN. Else x; but a zero is -0 only where both x and y are negative.
+-- NaN for good after an infinity or NaN. Else x; but a zero is -0 only where both x and y have a minus sign.
 unfoldable pub passed : Float → Float → Float
 passed x nan = nan
 passed x (inf t) = nan
@@ -77,8 +77,8 @@ passed (fin s (suc m) e) (fin t n d) = fin s (suc m) e
 
 weighed : (x y : Float) → T (fits binary32 x) → F.one *f x +f F.zero *f y ≡ passed x y
 unfolding passed Ieee.add
-weighed x nan p = rw (zero-mul-unfinite nan refl) (add-nan (F.one *f x))
-weighed x (inf t) p = rw (zero-mul-unfinite (inf t) refl) (add-nan (F.one *f x))
+weighed x nan p = rw (zero-mul-nonfinite nan refl) (add-nan (F.one *f x))
+weighed x (inf t) p = rw (zero-mul-nonfinite (inf t) refl) (add-nan (F.one *f x))
 weighed nan (fin t n d) p = rw (one-mul nan p) (nan-add (F.zero *f fin t n d))
 weighed (inf s) (fin t n d) p = rw (one-mul (inf s) p, zero-mul t n d) refl
 weighed (fin s zero e) (fin t n d) p = rw (one-mul (fin s zero e) p, zero-mul t n d, zero-fits s e (is-true _ p)) (zeros-add s t)
@@ -111,7 +111,7 @@ passed-same (inf s) (fin t m d) h n = refl
 passed-same (fin s zero e) (fin t m d) h n = absurd (true≢false (sym (zero-equals s e) ∙ n))
 passed-same (fin s (suc k) e) (fin t m d) h n = refl
 
--- and of a zero it is a zero, negative only where both x and y are
+-- and of a zero it is a zero, with a minus sign only where both x and y have one
 pub passed-zero : (s : Bool) (y : Float) → finite y ≡ true → passed (fin s 0 (pos 0)) y ≡ fin (s && negative y) 0 (pos 0)
 unfolding passed negative
 passed-zero s nan h = absurd (true≢false (sym h))
@@ -145,10 +145,11 @@ passed-finite (fin s (suc k) e) (fin t m d) h = refl
 
 -- ---- a filter's life while it is off
 
--- its last answer was finite, as a new filter's is, or it was not
+-- it is off, and its last answer is finite, as a new filter's is: numbers pass
 abbrev pub Passing : Lowpass → Type 0
 Passing s = Off s × (finite (s .y) ≡ true)
 
+-- it is off, and its last answer is an infinity or NaN: NaN for good
 abbrev pub Lost : Lowpass → Type 0
 Lost s = Off s × (finite (s .y) ≡ false)
 
@@ -177,13 +178,13 @@ unfolding stepLowpass
 goes-on s x (off, h) p k = (off, answer-finite s x (off, h) p ∙ k)
 
 -- an infinity passes once, as NaN does, and is kept
-pub is-lost : (s : Lowpass) (x : Float) → Passing s → T (fits binary32 x) → finite x ≡ false → Lost (stepLowpass s x .filter)
+pub becomes-lost : (s : Lowpass) (x : Float) → Passing s → T (fits binary32 x) → finite x ≡ false → Lost (stepLowpass s x .filter)
 unfolding stepLowpass
-is-lost s x (off, h) p k = (off, answer-finite s x (off, h) p ∙ k)
+becomes-lost s x (off, h) p k = (off, answer-finite s x (off, h) p ∙ k)
 
 -- once an infinity or NaN has been fed, every later answer is NaN
 pub stays-lost : (s : Lowpass) (x : Float) → Lost s → (stepLowpass s x .y ≡ nan) × Lost (stepLowpass s x .filter)
 unfolding stepLowpass
 stays-lost s x (off, h) =
-    let n : s .alpha0 *f x +f s .alpha1 *f s .y ≡ nan = rw (off .1, zero-mul-unfinite (s .y) h) (add-nan (s .alpha0 *f x)) in
+    let n : s .alpha0 *f x +f s .alpha1 *f s .y ≡ nan = rw (off .1, zero-mul-nonfinite (s .y) h) (add-nan (s .alpha0 *f x)) in
     (n, (off, ap finite n))

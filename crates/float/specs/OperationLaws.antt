@@ -51,6 +51,12 @@ pub nan-mul : (x : Float) → nan *f x ≡ nan
 unfolding Ieee.mul
 nan-mul x = refl
 
+pub div-nan : (x : Float) → x /f nan ≡ nan
+unfolding Ieee.div
+div-nan nan = refl
+div-nan (inf s) = refl
+div-nan (fin s m e) = refl
+
 pub nan-div : (x : Float) → nan /f x ≡ nan
 unfolding Ieee.div
 nan-div x = refl
@@ -137,11 +143,17 @@ unfolding ofBits
 zero-mul true m e = zero-times false true m e
 zero-mul false m e = zero-times false false m e
 
-pub zero-mul-unfinite : (x : Float) → finite x ≡ false → F.zero *f x ≡ nan
+pub zero-mul-nonfinite : (x : Float) → finite x ≡ false → F.zero *f x ≡ nan
 unfolding Ieee.mul ofBits
-zero-mul-unfinite nan h = refl
-zero-mul-unfinite (inf s) h = refl
-zero-mul-unfinite (fin s m e) h = absurd (true≢false h)
+zero-mul-nonfinite nan h = refl
+zero-mul-nonfinite (inf s) h = refl
+zero-mul-nonfinite (fin s m e) h = absurd (true≢false h)
+
+pub nonfinite-mul-zero : (x : Float) → finite x ≡ false → x *f F.zero ≡ nan
+unfolding Ieee.mul ofBits
+nonfinite-mul-zero nan h = refl
+nonfinite-mul-zero (inf s) h = refl
+nonfinite-mul-zero (fin s m e) h = absurd (true≢false h)
 
 -- ---- sums with a zero
 
@@ -205,39 +217,39 @@ self-div s m e = rw (eqb·suc-zero m, alike s) (round-value binary32 false 1 (po
 
 -- ---- what is not finite
 
-pub unfinite-is : (x : Float) → finite x ≡ false → (x ≡ nan) ⊎ ((s : Bool) × (x ≡ inf s))
-unfinite-is nan h = inl refl
-unfinite-is (inf s) h = inr (s, refl)
-unfinite-is (fin s m e) h = absurd (true≢false h)
+pub nonfinite-is : (x : Float) → finite x ≡ false → (x ≡ nan) ⊎ ((s : Bool) × (x ≡ inf s))
+nonfinite-is nan h = inl refl
+nonfinite-is (inf s) h = inr (s, refl)
+nonfinite-is (fin s m e) h = absurd (true≢false h)
 
 -- an infinity or NaN times anything, and plus anything
-pub unfinite-mul : (x y : Float) → finite x ≡ false → finite (x *f y) ≡ false
+pub nonfinite-mul : (x y : Float) → finite x ≡ false → finite (x *f y) ≡ false
 unfolding Ieee.mul
-unfinite-mul nan y h = refl
-unfinite-mul (inf s) nan h = refl
-unfinite-mul (inf s) (inf t) h = refl
-unfinite-mul (inf s) (fin t zero d) h = refl
-unfinite-mul (inf s) (fin t (suc n) d) h = rw (eqb·suc-zero n) refl
-unfinite-mul (fin s m e) y h = absurd (true≢false h)
+nonfinite-mul nan y h = refl
+nonfinite-mul (inf s) nan h = refl
+nonfinite-mul (inf s) (inf t) h = refl
+nonfinite-mul (inf s) (fin t zero d) h = refl
+nonfinite-mul (inf s) (fin t (suc n) d) h = rw (eqb·suc-zero n) refl
+nonfinite-mul (fin s m e) y h = absurd (true≢false h)
 
-pub unfinite-add : (x y : Float) → finite x ≡ false → finite (x +f y) ≡ false
+pub nonfinite-add : (x y : Float) → finite x ≡ false → finite (x +f y) ≡ false
 unfolding Ieee.add
-unfinite-add nan y h = refl
-unfinite-add (inf s) nan h = refl
-unfinite-add (inf true) (inf true) h = refl
-unfinite-add (inf true) (inf false) h = refl
-unfinite-add (inf false) (inf true) h = refl
-unfinite-add (inf false) (inf false) h = refl
-unfinite-add (inf s) (fin t n d) h = refl
-unfinite-add (fin s m e) y h = absurd (true≢false h)
+nonfinite-add nan y h = refl
+nonfinite-add (inf s) nan h = refl
+nonfinite-add (inf true) (inf true) h = refl
+nonfinite-add (inf true) (inf false) h = refl
+nonfinite-add (inf false) (inf true) h = refl
+nonfinite-add (inf false) (inf false) h = refl
+nonfinite-add (inf s) (fin t n d) h = refl
+nonfinite-add (fin s m e) y h = absurd (true≢false h)
 
-pub add-unfinite : (x y : Float) → finite y ≡ false → finite (x +f y) ≡ false
+pub add-nonfinite : (x y : Float) → finite y ≡ false → finite (x +f y) ≡ false
 unfolding Ieee.add
-add-unfinite nan y h = refl
-add-unfinite (inf s) y h = unfinite-add (inf s) y refl
-add-unfinite (fin s m e) nan h = refl
-add-unfinite (fin s m e) (inf t) h = refl
-add-unfinite (fin s m e) (fin t n d) h = absurd (true≢false h)
+add-nonfinite nan y h = refl
+add-nonfinite (inf s) y h = nonfinite-add (inf s) y refl
+add-nonfinite (fin s m e) nan h = refl
+add-nonfinite (fin s m e) (inf t) h = refl
+add-nonfinite (fin s m e) (fin t n d) h = absurd (true≢false h)
 
 -- anything divided by a zero
 pub div-zero : (x z : Float) → eq z F.zero ≡ true → finite (x /f z) ≡ false

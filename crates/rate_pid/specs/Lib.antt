@@ -1,4 +1,4 @@
 pub mod Slew
 pub mod RatePid
 pub mod RatePidLaws
-pub mod SwitchedOffLaws
+pub mod FiltersOffLaws
