@@ -50,6 +50,20 @@ is_open() { # DESCRIPTOR
     { true >&"$1"; } 2>/dev/null
 }
 
+# Starts a program in the place of the shell that calls this. Programs are for x86-64: on another machine the kit's emulator runs them, with the
+# kit's loader and C library, as rt does.
+start_program() { # PROGRAM
+    machine=$(uname -m)
+    if [ "$machine" != x86_64 ]; then
+        rt=$(readlink -f "$(command -v rt)")
+        toolchain=${RATTLE_HOME:-${rt%/bin/rt}}/on/$machine/toolchain
+        if [ -x "$toolchain/bin/qemu-x86_64" ]; then
+            exec "$toolchain/bin/qemu-x86_64" "$toolchain/lib/ld-linux-x86-64.so.2" --library-path "$toolchain/lib" "$1"
+        fi
+    fi
+    exec "$1"
+}
+
 # Prints what is to be said of a program that ended with this status, having said these words. A proved program itself always ends with 0: any
 # other status is the shell's, above 128 for a signal. A program that was ended so has said nothing, which is no sign that its input is accepted.
 how_it_ended() { # STATUS WORDS

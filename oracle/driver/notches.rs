@@ -87,9 +87,14 @@ impl NotchOperands {
 }
 
 /// The f32 nearest to the tangent. Mostly it is f32's own too, which differs in the last place from one C library to the
-/// other: the lines of a seed must not.
+/// other, as NaN's pattern does from one processor to the other: the lines of a seed must not.
 fn tangent(x: f32) -> f32 {
-    f64::from(x).tan() as f32
+    let t = f64::from(x).tan() as f32;
+    if t.is_nan() {
+        f32::from_bits(0x7fc0_0000)
+    } else {
+        t
+    }
 }
 
 /// A biquad's a and b. An ordinary one is stable: what it answers stays finite.

@@ -1,5 +1,6 @@
 //! Stands in for the crate `num_traits`: one trait, named both `Float` and `real::Real`, with the methods that the
-//! sources use. Every method but `clamp` is std's own method on f32, so no arithmetic is written here.
+//! sources use. Every method but `clamp` is std's own method on f32, so no arithmetic is written here; `max` and `min` ask
+//! std wherever it promises an answer.
 
 pub mod float {
     use core::ops::{Add, Div, Mul, Neg, Sub};
@@ -63,13 +64,24 @@ pub mod float {
         fn powi(self, n: i32) -> Self {
             Self::of_f32(self.as_f32().powi(n))
         }
+        /// Of two zeros of opposite sign std leaves open which one it is, and processors differ (docs/DIFFERENCES.md): document
+        /// 01 takes the first. Equal numbers that are no zeros are the same, so the first is right there too.
         #[inline(always)]
         fn max(self, other: Self) -> Self {
-            Self::of_f32(self.as_f32().max(other.as_f32()))
+            if self == other {
+                self
+            } else {
+                Self::of_f32(self.as_f32().max(other.as_f32()))
+            }
         }
+        /// As `max`.
         #[inline(always)]
         fn min(self, other: Self) -> Self {
-            Self::of_f32(self.as_f32().min(other.as_f32()))
+            if self == other {
+                self
+            } else {
+                Self::of_f32(self.as_f32().min(other.as_f32()))
+            }
         }
         /// As num_traits 0.2 has it: unlike std's, it answers where the bounds are in the wrong order or NaN.
         #[inline(always)]

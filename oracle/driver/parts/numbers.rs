@@ -1,4 +1,4 @@
-//! The section `Numbers`: f32's own methods and utils/func.rs.
+//! The section `Numbers`: f32's own methods (`max` and `min` as the sources get them, by the stand-in) and utils/func.rs.
 
 mod lines;
 
@@ -8,11 +8,12 @@ use crate::panics::caught;
 use crate::protocol::{Answer, Call, Calls, Operands, Table};
 use holsatus::utils::func;
 pub use lines::lines;
+use num_traits::Float;
 use std::hint::black_box;
 
 const CALLS: &[Call<()>] = &[
-    Call { name: "max", form: "ff", run: |_, x, to| result(x.float(0).max(x.float(1)), to) },
-    Call { name: "min", form: "ff", run: |_, x, to| result(x.float(0).min(x.float(1)), to) },
+    Call { name: "max", form: "ff", run: |_, x, to| result(Float::max(x.float(0), x.float(1)), to) },
+    Call { name: "min", form: "ff", run: |_, x, to| result(Float::min(x.float(0), x.float(1)), to) },
     Call { name: "clamp", form: "fff", run: |_, x, to| clamp(x, to) },
     Call { name: "abs", form: "f", run: |_, x, to| result(x.float(0).abs(), to) },
     Call { name: "powi3", form: "f", run: |_, x, to| result(powi::<3>(x.float(0)), to) },
