@@ -1,6 +1,6 @@
 //! Stands in for the crate `num_traits`: one trait, named both `Float` and `real::Real`, with the methods that the
-//! sources use. Every method but `clamp` is std's own method on f32, so no arithmetic is written here; `max` and `min` ask
-//! std wherever it promises an answer.
+//! sources use. Every method is std's own on f32, but `clamp`, and `max` and `min` of equal numbers: no arithmetic is
+//! written here.
 
 pub mod float {
     use core::ops::{Add, Div, Mul, Neg, Sub};
