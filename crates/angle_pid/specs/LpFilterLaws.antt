@@ -7,7 +7,7 @@ use lib.Ieee.{Float, binary32, fits, eq, lt, isNan}
 use Rattle.float.specs.F32 as F
 use Rattle.float.specs.F32.{_+f_}
 use Rattle.filters.specs.declared.lowpass.Lowpass.{Lowpass}
-use Rattle.filters.specs.Lowpass.{newLowpass}
+use Rattle.filters.specs.Lowpass.{newLowpass, stepLowpass}
 use Rattle.filters.specs.LowpassLaws.{Passing, new-passing, sum-zero-off, passes}
 use Rattle.refusal.specs.Refusal as RefusalSpecs
 use Rattle.refusal.specs.declared.Refusal.the-variants as Refusal
@@ -36,3 +36,8 @@ new-lp-off tau ts h = (refl, new-passing tau ts (sum-zero-off tau ts F.zero h))
 pub lp-passes : (f : Lowpass) (x : Float) → Passing f → T (fits binary32 x) → isNan x ≡ false → eq (stepLpFilter (LpFilter.On f) x .y) x ≡ true
 unfolding stepLpFilter
 lp-passes f x p t n = passes f x p t n
+
+-- what it leaves is what that low pass leaves
+pub lp-leaves : (f : Lowpass) (x : Float) → stepLpFilter (LpFilter.On f) x .filter ≡ LpFilter.On (stepLowpass f x .filter)
+unfolding stepLpFilter
+lp-leaves f x = refl

@@ -32,9 +32,12 @@ unfolding lowpassOf
 alpha-one-off tau dt y h = (h, ap (λ (a : Float). F.one -f a) h ∙ one-less-one)
 
 -- where tau + dt is zero, of either sign
-pub sum-zero-off : (tau dt y : Float) → eq (tau +f dt) F.zero ≡ true → Off (lowpassOf tau dt y)
+pub alpha0-sum-zero : (tau dt : Float) → eq (tau +f dt) F.zero ≡ true → alpha0Of tau dt ≡ F.one
 unfolding alpha0Of
-sum-zero-off tau dt y h = alpha-one-off tau dt y (simp h)
+alpha0-sum-zero tau dt h = simp h
+
+pub sum-zero-off : (tau dt y : Float) → eq (tau +f dt) F.zero ≡ true → Off (lowpassOf tau dt y)
+sum-zero-off tau dt y h = alpha-one-off tau dt y (alpha0-sum-zero tau dt h)
 
 -- as it is where tau is the opposite of a finite dt
 pub opposite-off : (dt y : Float) → finite dt ≡ true → Off (lowpassOf (Ieee.neg dt) dt y)
@@ -42,10 +45,16 @@ unfolding ofBits
 opposite-off dt y h = sum-zero-off (Ieee.neg dt) dt y (ap (λ (x : Float). eq x F.zero) (opposite-add dt h) ∙ zero-equals false (pos 0))
 
 -- everywhere else the coefficients are the Rust's
+pub alpha0-sum-not-zero : (tau dt : Float) → eq (tau +f dt) F.zero ≡ false → alpha0Of tau dt ≡ dt /f (tau +f dt)
+unfolding alpha0Of
+alpha0-sum-not-zero tau dt h = simp h
+
 pub sum-not-zero : (tau dt y : Float) → eq (tau +f dt) F.zero ≡ false
     → (lowpassOf tau dt y .alpha0 ≡ dt /f (tau +f dt)) × (lowpassOf tau dt y .alpha1 ≡ F.one -f dt /f (tau +f dt))
-unfolding lowpassOf alpha0Of
-sum-not-zero tau dt y h = (simp h, simp h)
+unfolding lowpassOf
+sum-not-zero tau dt y h =
+    let a = alpha0-sum-not-zero tau dt h in
+    (a, ap (λ (x : Float). F.one -f x) a)
 
 -- where tau is zero, a filter is off with every finite dt: with zero by the rule, with every other since dt/dt is 1
 alpha-of-zero-tau : (s : Bool) (dt : Float) → T (fits binary32 dt) → finite dt ≡ true → alpha0Of (fin s 0 (pos 0)) dt ≡ F.one
@@ -165,6 +174,16 @@ set-dt-off s dt h = (sum-zero-off (s .tau) dt (s .y) h, refl)
 pub set-tau-off : (s : Lowpass) (tau : Float) → eq (tau +f s .dt) F.zero ≡ true → Off (setTauLowpass s tau) × (setTauLowpass s tau .y ≡ s .y)
 unfolding setTauLowpass lowpassOf
 set-tau-off s tau h = (sum-zero-off tau (s .dt) (s .y) h, refl)
+
+-- whatever it was: after both setters, in either order, it is the filter for that tau and dt that last gave what it gave
+pub set-both : (s : Lowpass) (tau dt : Float) → (setDtLowpass (setTauLowpass s tau) dt ≡ lowpassOf tau dt (s .y)) × (setTauLowpass (setDtLowpass s dt) tau ≡ lowpassOf tau dt (s .y))
+unfolding setDtLowpass setTauLowpass lowpassOf
+set-both s tau dt = (refl, refl)
+
+-- and an update leaves all but the last answer, so that the setters find tau and dt as they were
+pub step-keeps : (s : Lowpass) (x : Float) → stepLowpass s x .filter ≡ record { tau = s .tau; dt = s .dt; y = stepLowpass s x .y; alpha0 = s .alpha0; alpha1 = s .alpha1 }
+unfolding stepLowpass
+step-keeps s x = refl
 
 -- numbers pass, and it goes on so as long as they are finite
 pub passes : (s : Lowpass) (x : Float) → Passing s → T (fits binary32 x) → isNan x ≡ false → eq (stepLowpass s x .y) x ≡ true

@@ -10,12 +10,14 @@ use lib.Ieee.Fits.{mul-fits}
 use lib.Ieee.Scale.{finite}
 use Rattle.float.specs.F32 as F
 use Rattle.float.specs.F32.{_+f_, _-f_, _*f_, _/f_}
+use Rattle.float.specs.Float.{absF}
 use Rattle.float.specs.FloatLaws.{zero-is, zero-equals}
 use Rattle.float.specs.OperationLaws.{zero-times, div-zero, nonfinite-mul, add-nonfinite}
-use Rattle.filters.specs.LowpassLaws.{Passing, new-passing, sum-zero-off, tau-zero-off}
+use Rattle.filters.specs.Lowpass2.{setDtLowpass2}
+use Rattle.filters.specs.LowpassLaws.{Passing, new-passing, sum-zero-off, tau-zero-off, passed, off-answers}
 use Rattle.filters.specs.Lowpass2Laws.{Off2, Passing2, Lost2, new-passing2, set-dt-off2, passes2, goes-on2, becomes-lost2, stays-lost2}
 use Rattle.rate_pid.specs.declared.RatePid.{RatePid}
-use Rattle.rate_pid.specs.RatePid.{ten, filteredOf, dGainOf, measDerivativeOf, termsOf, stepRatePid, totalOf, newRatePid, setTsRatePid, badRatePid, guarded, callSetTsRatePid, callUpdateRatePid}
+use Rattle.rate_pid.specs.RatePid.{ten, filteredOf, dGainOf, measDerivativeOf, dampedOf, dampingOf, termsOf, stepRatePid, totalOf, newRatePid, setTsRatePid, badRatePid, guarded, callSetTsRatePid, callUpdateRatePid}
 use Rattle.rate_pid.specs.RatePidLaws.{update-accepted}
 
 -- ---- a sample time of zero
@@ -41,6 +43,12 @@ pub set-ts-measurement-off : (s : RatePid) (ts : Float) → badRatePid s ≡ fal
     → Off2 (callSetTsRatePid s ts .pid .«d_lowpass»)
 unfolding callSetTsRatePid guarded setTsRatePid
 set-ts-measurement-off s ts good h k = rw good (set-dt-off2 (s .«d_lowpass») ts h k)
+
+-- `set_ts` sets the measurement's alone
+pub set-ts-filters : (s : RatePid) (ts : Float) → badRatePid s ≡ false
+    → (callSetTsRatePid s ts .pid .«d_lowpass» ≡ setDtLowpass2 (s .«d_lowpass») ts) × (callSetTsRatePid s ts .pid .lowpass ≡ s .lowpass)
+unfolding callSetTsRatePid guarded setTsRatePid
+set-ts-filters s ts good = rw good (refl, refl)
 
 -- where 10·tau + dt is zero, the damping filter
 pub new-damping-off : (kp ki kd tau dt : Float) → eq (tau *f ten +f dt) F.zero ≡ true → Passing (newRatePid kp ki kd tau dt .lowpass)
@@ -81,3 +89,10 @@ module _ (s : RatePid) (m : Float) (off : Passing2 (s .«d_lowpass»)) (p : T (f
 pub measurement-stays-lost : (s : RatePid) (r m p : Float) → Lost2 (s .«d_lowpass») → (filteredOf s m ≡ nan) × Lost2 (stepRatePid s r m p .«d_lowpass»)
 unfolding filteredOf stepRatePid
 measurement-stays-lost s r m p lost = stays-lost2 (s .«d_lowpass») m lost
+
+-- ---- the damping filter is off
+
+-- what the integral's growth is divided by: 1 and what the filter passes of the derivative's size
+pub damping-passes : (s : RatePid) (d : Float) → Passing (s .lowpass) → T (fits binary32 (absF d)) → dampingOf s d ≡ F.one +f passed (absF d) (s .lowpass .y)
+unfolding dampingOf dampedOf
+damping-passes s d (off, h) p = ap (λ (y : Float). F.one +f y) (off-answers (s .lowpass) off (absF d) p)
