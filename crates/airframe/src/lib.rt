@@ -1,5 +1,7 @@
 // airframe/mod.rs: where a frame's motors stand, and the matrix that mixes them. The definitions and the functions from
 // `read_motor` to `mix` hold for any number of motors; a frame of four is an instance of them.
+#![tactic(auto)]
+
 ghost use Rattle.std.specs.Prelude.{◌≡◌, ◌+◌, ◌*◌, ◌<◌, ◌≤◌, length, get_or};
 ghost use Rattle.std.specs.Float.{nan};
 ghost use Rattle.airframe.specs.Airframe.{signs_at, signed, motor, frame_motor, flat, frame, rows_from, motors_of, column, add_squares, divided, sums_of, good_sum, good_sums, entries, zeros, refusal_of, matrix_of, dir_of, quad, call_quad_x_basic, call_quad_p_basic, dev_quad_motor_setup};
@@ -8,7 +10,7 @@ use refusal::Refusal;
 
 // What a frame gives: four numbers a motor, the motors in the Rust's order. The Rust makes a `MotorSetup` and asks it for
 // `into_mixing_matrix`; here one call does both. Refused, the numbers are +0.
-#[derive(Drop)]
+#[derive(Clone, Copy)]
 pub struct Mixing {
     pub refusal: Refusal,
     pub matrix: [f32; 16],
@@ -16,7 +18,7 @@ pub struct Mixing {
 
 // The signs of a motor's x, y and reaction: 1 takes the frame's distance as it is, -1 turns its sign, and 0 is +0
 // whatever the distance.
-#[derive(Drop)]
+#[derive(Clone, Copy)]
 struct Signs(i8, i8, i8);
 
 // Four motors to a frame: the X frame's back right, front right, back left, front left; then the plus frame's right,
@@ -33,7 +35,7 @@ const FRAMES: [Signs; 8] = [
 ];
 
 // A motor's place and the reaction of its propeller. A run of motors is lent as three numbers a motor, in this order.
-#[derive(Drop)]
+#[derive(Clone, Copy)]
 struct Motor {
     x: f32,
     y: f32,
@@ -41,7 +43,7 @@ struct Motor {
 }
 
 // One number for each row of the effectiveness matrix: the turns about x, y and z, and the push.
-#[derive(Drop)]
+#[derive(Clone, Copy)]
 struct PerRow {
     roll: f32,
     pitch: f32,

@@ -5,19 +5,19 @@ ghost use Rattle.angle_pid.specs.LpFilter.{tau_refusal, new_lp_filter, stored_ta
 use filters::Lowpass;
 use refusal::Refusal;
 
-#[derive(Drop)]
+#[derive(Clone, Copy)]
 pub enum Tau {
     Off,
     On(f32),
 }
 
-#[derive(Drop)]
+#[derive(Clone, Copy)]
 pub enum LpFilter {
     Off,
     On(Lowpass),
 }
 
-#[derive(Drop)]
+#[derive(Clone, Copy)]
 pub struct LpFiltered {
     pub y: f32,
     pub filter: LpFilter,

@@ -7,7 +7,7 @@ use crate::lp_filter::{LpFilter, Tau};
 use crate::range::Range;
 use refusal::Refusal;
 
-#[derive(Drop)]
+#[derive(Clone, Copy)]
 pub struct Pid {
     pub kp: f32,
     pub ki: f32,
@@ -22,7 +22,7 @@ pub struct Pid {
     pub lp_filter: LpFilter,
 }
 
-#[derive(Drop)]
+#[derive(Clone, Copy)]
 pub struct PidConfig {
     pub kp: f32,
     pub ki: f32,
@@ -36,14 +36,14 @@ pub struct PidConfig {
 
 // What `with_config` and the setters give, the refusal and the state: refused, the constructor's state is all zero, and a
 // setter's is as it was.
-#[derive(Drop)]
+#[derive(Clone, Copy)]
 pub struct PidChanged {
     pub refusal: Refusal,
     pub pid: Pid,
 }
 
 // What an update gives: refused, y is +0, the steps are 0, or 64 where they ran out, and the state is as it was.
-#[derive(Drop)]
+#[derive(Clone, Copy)]
 pub struct PidUpdated {
     pub refusal: Refusal,
     pub y: f32,
@@ -52,7 +52,7 @@ pub struct PidUpdated {
 }
 
 // What one step of the controller gives, whose parts are good and whose error is wrapped.
-#[derive(Drop)]
+#[derive(Clone, Copy)]
 struct PidStepped {
     y: f32,
     pid: Pid,

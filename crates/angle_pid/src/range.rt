@@ -5,7 +5,7 @@ ghost use Rattle.angle_pid.specs.Range.{range_refusal, wrap_error, shifted, admi
 use func::Wrapped;
 use refusal::Refusal;
 
-#[derive(Drop)]
+#[derive(Clone, Copy)]
 pub enum Range {
     Off,
     On { min: f32, max: f32 },

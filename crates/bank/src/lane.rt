@@ -9,21 +9,21 @@ use rate_pid::{Changed, PidTerms, RatePid};
 use refusal::Refusal;
 
 // Public, so that a lane can be built by hand; every call tests it.
-#[derive(Drop)]
+#[derive(Clone, Copy)]
 pub struct Lane {
     pub open: bool,
     pub pid: RatePid,
 }
 
 // A slew limit, if wanted.
-#[derive(Drop)]
+#[derive(Clone, Copy)]
 pub enum SlewLimit {
     Off,
     At(f32),
 }
 
 // What can be asked of a lane.
-#[derive(Drop)]
+#[derive(Clone, Copy)]
 pub enum Op {
     Open {
         kp: f32,
@@ -52,7 +52,7 @@ pub enum Op {
 
 // What a call answers: y is an update's value, terms what `terms` reads. The numbers that a call does not give are +0,
 // and so are all of a refused answer.
-#[derive(Drop)]
+#[derive(Clone, Copy)]
 pub struct Answer {
     pub refusal: Refusal,
     pub y: f32,
@@ -60,7 +60,7 @@ pub struct Answer {
 }
 
 // The lane after the call beside its answer.
-#[derive(Drop)]
+#[derive(Clone, Copy)]
 pub struct Stepped {
     pub answer: Answer,
     pub lane: Lane,

@@ -1,5 +1,7 @@
 // A run of updates of a bank, one call each with the whole bank given and handed back, for C and Rust to link: the benchmarks time it beside
 // the rows.
+#![tactic(auto)]
+
 ghost use Rattle.std.specs.Prelude.{◌≡◌, length};
 ghost use Rattle.bench_updates.specs.Updates.{updates_in};
 ghost use Rattle.bench_bank_calls.specs.Calls.{bank_out_after};

@@ -1,4 +1,6 @@
 // Runs of one notch and of three in a row, for C and Rust to link: the benchmarks call them.
+#![tactic(auto)]
+
 ghost use Rattle.std.specs.Prelude.{◌≡◌, ◌≤◌, length};
 ghost use Rattle.std.proofs.lemmas.List.Edits.{sets};
 ghost use Rattle.lanes.specs.Runs.{answers};

@@ -1,5 +1,7 @@
 // The root by itself and the two calls that take it, for C and Rust to link: the benchmarks and `oracle/exhaustive` call
 // them.
+#![tactic(auto)]
+
 ghost use Rattle.std.specs.Prelude.{◌≡◌};
 ghost use Rattle.root.specs.Root.{root};
 ghost use Rattle.bench_root.specs.Callers.{command_for, deviation_of};

@@ -1,4 +1,6 @@
 // Runs of rows of 1, 2, 4 and 8 lanes for C and Rust to link: the benchmarks call them.
+#![tactic(auto)]
+
 ghost use Rattle.std.specs.Prelude.{◌≡◌, ◌≤◌, length};
 ghost use Rattle.rows.specs.Rows.{call_update_rows, rows_out};
 ghost use Rattle.bench_rows.specs.Eight.{limit_of, opened_by, eight_of};

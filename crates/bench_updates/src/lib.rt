@@ -1,4 +1,6 @@
 // Functions for C and Rust to link (`rt staticlib bench_updates`): the comparison over all patterns and the benchmarks call them.
+#![tactic(auto)]
+
 ghost use Rattle.std.specs.Prelude.{◌≡◌, length, get_or};
 ghost use Rattle.std.specs.Float.{nan};
 ghost use Rattle.bench_updates.specs.Updates.{new_of, updates_in, out_after};

@@ -1,5 +1,7 @@
 // The same run as `plumradek_updates`, with the controller changed where it lies. It stands in a library of its own because the compiler puts
 // the update's code into its caller only where it has one caller, and both are to be timed as a program has them.
+#![tactic(auto)]
+
 ghost use Rattle.std.specs.Prelude.{◌≡◌, length};
 ghost use Rattle.bench_updates.specs.Updates.{updates_in, out_after};
 

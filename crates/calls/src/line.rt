@@ -4,7 +4,7 @@ ghost use Rattle.std.specs.Prelude.{◌*◌, ◌≤◌, length};
 use calls_words::{CallAnswer, text};
 
 // A word of 8 digits, or none.
-#[derive(Drop)]
+#[derive(Clone, Copy)]
 struct Word {
     ok: bool,
     value: u32,

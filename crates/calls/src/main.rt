@@ -1,4 +1,6 @@
 // Makes the calls of docs/CALLS.md, each by a line of text, one answer a line.
+#![tactic(auto)]
+
 mod line;
 
 use calls_words::{places, text};
@@ -7,7 +9,7 @@ use libc::{STDERR_FILENO, STDIN_FILENO, STDOUT_FILENO};
 // What is kept from byte to byte and from read to read: how many bytes of a line have come, whether it is longer than a
 // line may be, how many bytes of answers wait to be written, and whether it goes on: no read and no write failed, and the
 // input has not ended.
-#[derive(Drop)]
+#[derive(Clone, Copy)]
 struct Place {
     kept: usize,
     long: bool,

@@ -1,4 +1,6 @@
 // The bank: crate bank. Functions by the count of operands make the call on the bank, and one keeps its lanes.
+#![tactic(auto)]
+
 mod lanes;
 
 use bank::{Bank, Banked, SlewLimit};
@@ -6,7 +8,7 @@ use calls_words::{CallAnswer, places};
 use rate_pid::PidTerms;
 
 // An answer's numbers are an update's value or the terms, and none for the other calls.
-#[derive(Drop)]
+#[derive(Clone, Copy)]
 struct BankAnswer {
     answer: CallAnswer,
     y: f32,

@@ -1,4 +1,6 @@
 // The controllers: crates angle_pid and rate_pid.
+#![tactic(auto)]
+
 mod pid_calls;
 mod rate_pid_calls;
 pub mod states;

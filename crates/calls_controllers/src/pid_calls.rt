@@ -3,7 +3,7 @@ use super::states;
 use angle_pid::{Pid, PidChanged, PidConfig, PidUpdated, Tau};
 use calls_words::{CallAnswer, places};
 
-#[derive(Drop)]
+#[derive(Clone, Copy)]
 struct PidAnswer {
     answer: CallAnswer,
     y: f32,

@@ -3,7 +3,7 @@ use super::states;
 use calls_words::{CallAnswer, places};
 use rate_pid::{Changed, RatePid, Updated};
 
-#[derive(Drop)]
+#[derive(Clone, Copy)]
 struct RatePidAnswer {
     answer: CallAnswer,
     y: f32,

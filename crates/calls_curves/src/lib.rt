@@ -1,4 +1,6 @@
 // The curves, the table lookup and the frames: crates rates, linear_lut and airframe.
+#![tactic(auto)]
+
 mod frame_calls;
 mod rates_calls;
 mod table_calls;

@@ -3,7 +3,7 @@ use super::states;
 use calls_words::{CallAnswer, places};
 use filters::Complementary;
 
-#[derive(Drop)]
+#[derive(Clone, Copy)]
 struct ComplementaryAnswer {
     answer: CallAnswer,
     y: f32,

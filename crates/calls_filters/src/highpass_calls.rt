@@ -3,7 +3,7 @@ use super::states;
 use calls_words::{CallAnswer, places};
 use filters::Highpass;
 
-#[derive(Drop)]
+#[derive(Clone, Copy)]
 struct HighpassAnswer {
     answer: CallAnswer,
     y: f32,

@@ -3,7 +3,7 @@ use super::states;
 use calls_words::{CallAnswer, places};
 use filters::IntegratingComplementary;
 
-#[derive(Drop)]
+#[derive(Clone, Copy)]
 struct IntegratingComplementaryAnswer {
     answer: CallAnswer,
     y: f32,

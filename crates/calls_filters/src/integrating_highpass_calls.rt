@@ -3,7 +3,7 @@ use super::states;
 use calls_words::{CallAnswer, places};
 use filters::IntegratingHighpass;
 
-#[derive(Drop)]
+#[derive(Clone, Copy)]
 struct IntegratingHighpassAnswer {
     answer: CallAnswer,
     y: f32,

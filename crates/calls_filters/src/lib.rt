@@ -1,4 +1,6 @@
 // The filters: crate filters.
+#![tactic(auto)]
+
 mod complementary_calls;
 mod highpass_calls;
 mod integrating_complementary_calls;

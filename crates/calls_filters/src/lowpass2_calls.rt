@@ -3,7 +3,7 @@ use super::states;
 use calls_words::{CallAnswer, places};
 use filters::NthOrderLowpass;
 
-#[derive(Drop)]
+#[derive(Clone, Copy)]
 struct NthOrderLowpassAnswer {
     answer: CallAnswer,
     y: f32,

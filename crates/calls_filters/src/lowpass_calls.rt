@@ -3,7 +3,7 @@ use super::states;
 use calls_words::{CallAnswer, places};
 use filters::Lowpass;
 
-#[derive(Drop)]
+#[derive(Clone, Copy)]
 struct LowpassAnswer {
     answer: CallAnswer,
     y: f32,

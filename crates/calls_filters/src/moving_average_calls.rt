@@ -3,7 +3,7 @@ use super::states;
 use calls_words::{CallAnswer, places};
 use filters::MovingAverage;
 
-#[derive(Drop)]
+#[derive(Clone, Copy)]
 struct MovingAverageAnswer {
     answer: CallAnswer,
     y: f32,

@@ -3,7 +3,7 @@ use super::states;
 use calls_words::{CallAnswer, places};
 use filters::SlewRate;
 
-#[derive(Drop)]
+#[derive(Clone, Copy)]
 struct SlewRateAnswer {
     answer: CallAnswer,
     y: f32,

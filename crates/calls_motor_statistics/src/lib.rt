@@ -1,4 +1,6 @@
 // The motor curve, and mean and variance: crates motor_lin and statistics.
+#![tactic(auto)]
+
 mod motor_lin_calls;
 mod states;
 mod statistics_calls;

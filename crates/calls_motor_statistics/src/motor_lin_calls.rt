@@ -3,7 +3,7 @@ use super::states;
 use calls_words::{CallAnswer, places};
 use motor_lin::{Command, Commanded, Forced, MotorLin, Thrust};
 
-#[derive(Drop)]
+#[derive(Clone, Copy)]
 struct MotorAnswer {
     answer: CallAnswer,
     y: f32,

@@ -3,7 +3,7 @@ use super::states;
 use calls_words::{CallAnswer, places};
 use statistics::{Changed, Statistics};
 
-#[derive(Drop)]
+#[derive(Clone, Copy)]
 struct StatisticsAnswer {
     answer: CallAnswer,
     a: f32,

@@ -1,4 +1,6 @@
 // The notch, and three in a row: crate notch.
+#![tactic(auto)]
+
 mod notch_calls;
 mod notches_calls;
 mod states;

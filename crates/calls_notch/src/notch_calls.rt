@@ -5,7 +5,7 @@ use super::states;
 use calls_words::{CallAnswer, places};
 use notch::NotchFilter;
 
-#[derive(Drop)]
+#[derive(Clone, Copy)]
 struct NotchAnswer {
     answer: CallAnswer,
     y: f32,

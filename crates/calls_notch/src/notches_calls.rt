@@ -6,7 +6,7 @@ use notch::{Notches, NotchesRun};
 // The most samples of a run, and the most room of the second run.
 const LONGEST_RUN: usize = 64;
 
-#[derive(Drop)]
+#[derive(Clone, Copy)]
 struct RunAnswer {
     answer: CallAnswer,
     notches: Notches,

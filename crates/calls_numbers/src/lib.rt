@@ -1,4 +1,6 @@
 // The numbers: crates float, root and func.
+#![tactic(auto)]
+
 use calls_words::CallAnswer;
 
 pub fn answer_call(name: &[u8], ops: &[u32], res: &mut [u32]) -> CallAnswer {

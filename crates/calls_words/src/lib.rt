@@ -1,4 +1,6 @@
 // What a part of the calls tells of a line, and the words that it reads and writes.
+#![tactic(auto)]
+
 pub mod places;
 pub mod text;
 
@@ -7,7 +9,7 @@ use refusal::Refusal;
 // As many operands as a line has room for, and as many results.
 pub const WORDS: usize = 224;
 
-#[derive(Drop)]
+#[derive(Clone, Copy)]
 pub enum CallAnswer {
     // The line is none of this part's: another name, or other operands than the call of that name takes.
     NotOurs,

@@ -5,13 +5,13 @@ ghost use Rattle.filters.specs.Complementary.{new_complementary, set_dt_compleme
 use crate::highpass::Highpass;
 use crate::lowpass::Lowpass;
 
-#[derive(Drop)]
+#[derive(Clone, Copy)]
 pub struct Complementary {
     pub lp_filter: Lowpass,
     pub hp_filter: Highpass,
 }
 
-#[derive(Drop)]
+#[derive(Clone, Copy)]
 pub struct Complemented {
     pub y: f32,
     pub filter: Complementary,

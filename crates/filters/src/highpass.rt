@@ -2,7 +2,7 @@
 ghost use Rattle.std.specs.Prelude.{◌≡◌};
 ghost use Rattle.filters.specs.Highpass.{highpass_of, new_highpass, set_dt_highpass, set_tau_highpass, step_highpass};
 
-#[derive(Drop)]
+#[derive(Clone, Copy)]
 pub struct Highpass {
     pub tau: f32,
     pub dt: f32,
@@ -11,7 +11,7 @@ pub struct Highpass {
     pub alpha: f32,
 }
 
-#[derive(Drop)]
+#[derive(Clone, Copy)]
 pub struct Highpassed {
     pub y: f32,
     pub filter: Highpass,

@@ -5,7 +5,7 @@ ghost use Rattle.filters.specs.IntegratingComplementary.{new_integrating_complem
 
 use crate::integrating;
 
-#[derive(Drop)]
+#[derive(Clone, Copy)]
 pub struct IntegratingComplementary {
     pub tau: f32,
     pub dt: f32,
@@ -13,7 +13,7 @@ pub struct IntegratingComplementary {
     pub y_prev: f32,
 }
 
-#[derive(Drop)]
+#[derive(Clone, Copy)]
 pub struct IntegratingComplemented {
     pub y: f32,
     pub filter: IntegratingComplementary,

@@ -5,7 +5,7 @@ ghost use Rattle.filters.specs.IntegratingHighpass.{new_integrating_highpass, se
 
 use crate::integrating;
 
-#[derive(Drop)]
+#[derive(Clone, Copy)]
 pub struct IntegratingHighpass {
     pub tau: f32,
     pub dt: f32,
@@ -13,7 +13,7 @@ pub struct IntegratingHighpass {
     pub y_prev: f32,
 }
 
-#[derive(Drop)]
+#[derive(Clone, Copy)]
 pub struct IntegratingHighpassed {
     pub y: f32,
     pub filter: IntegratingHighpass,

@@ -1,5 +1,7 @@
 // filters/mod.rs: the simple filters, for f32. Each is a state that is given by value and handed back.
 // Its curves, `ExpoRates` and `Linear`, stand in the crate rates.
+#![tactic(auto)]
+
 mod complementary;
 mod highpass;
 mod integrating;

@@ -2,7 +2,7 @@
 ghost use Rattle.std.specs.Prelude.{◌≡◌};
 ghost use Rattle.filters.specs.Lowpass.{alpha0_of, lowpass_of, new_lowpass, set_dt_lowpass, set_tau_lowpass, step_lowpass};
 
-#[derive(Drop)]
+#[derive(Clone, Copy)]
 pub struct Lowpass {
     pub y: f32,
     pub alpha0: f32,
@@ -11,7 +11,7 @@ pub struct Lowpass {
     pub dt: f32,
 }
 
-#[derive(Drop)]
+#[derive(Clone, Copy)]
 pub struct Lowpassed {
     pub y: f32,
     pub filter: Lowpass,

@@ -4,13 +4,13 @@ ghost use Rattle.filters.specs.Lowpass2.{new_lowpass2, set_dt_lowpass2, configur
 
 use crate::lowpass::Lowpass;
 
-#[derive(Drop)]
+#[derive(Clone, Copy)]
 pub struct NthOrderLowpass {
     pub first: Lowpass,
     pub second: Lowpass,
 }
 
-#[derive(Drop)]
+#[derive(Clone, Copy)]
 pub struct NthOrderLowpassed {
     pub y: f32,
     pub filter: NthOrderLowpass,

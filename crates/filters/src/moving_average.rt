@@ -5,7 +5,7 @@ ghost use Rattle.filters.specs.MovingAverage.{bad_length, bad_window, new_with_v
 
 use refusal::Refusal;
 
-#[derive(Drop)]
+#[derive(Clone, Copy)]
 pub struct MovingAverage {
     pub length: usize,
     pub head: usize,
@@ -13,14 +13,14 @@ pub struct MovingAverage {
 }
 
 // What a constructor gives: refused, the all-zero state.
-#[derive(Drop)]
+#[derive(Clone, Copy)]
 pub struct MovingAverageMade {
     pub refusal: Refusal,
     pub filter: MovingAverage,
 }
 
 // What an update gives: refused, y is +0 and the state is as it was.
-#[derive(Drop)]
+#[derive(Clone, Copy)]
 pub struct MovingAveraged {
     pub refusal: Refusal,
     pub y: f32,

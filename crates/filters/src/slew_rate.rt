@@ -5,7 +5,7 @@ ghost use Rattle.filters.specs.SlewRate.{bad_limit, call_new_slew_rate, call_set
 
 use refusal::Refusal;
 
-#[derive(Drop)]
+#[derive(Clone, Copy)]
 pub struct SlewRate {
     pub rate_limit: f32,
     pub signal: f32,
@@ -13,14 +13,14 @@ pub struct SlewRate {
 }
 
 // What the constructor and the setter give: refused, the constructor's state is all zero, and the setter's is as it was.
-#[derive(Drop)]
+#[derive(Clone, Copy)]
 pub struct SlewRateChanged {
     pub refusal: Refusal,
     pub filter: SlewRate,
 }
 
 // What an update gives: refused, y is +0 and the state is as it was.
-#[derive(Drop)]
+#[derive(Clone, Copy)]
 pub struct SlewRated {
     pub refusal: Refusal,
     pub y: f32,

@@ -1,5 +1,7 @@
 // What Rust has as methods of f32, as document 01's section 'Arithmetic' fixes it: each for every f32, zeros of either
 // sign, infinities and NaN included.
+#![tactic(auto)]
+
 ghost use Rattle.std.specs.Prelude.{◌≡◌, cond};
 ghost use Rattle.std.specs.Float.{binary32};
 ghost use Rattle.std.specs.Float.Ieee.{is_nan, of_bits, to_bits, lt, neg};

@@ -1,11 +1,13 @@
 // utils/func.rs: mapping a number from one range to another, and wrapping it into a range by counted steps.
+#![tactic(auto)]
+
 ghost use Rattle.std.specs.Prelude.{◌≡◌};
 ghost use Rattle.func.specs.Func.{linear_map, refused, above, call_wrap_by, call_wrap};
 
 use refusal::Refusal;
 
 // What wrapping gives: refused, the number is +0 and the steps are 0, or 64 where they ran out.
-#[derive(Drop)]
+#[derive(Clone, Copy)]
 pub struct Wrapped {
     pub refusal: Refusal,
     pub value: f32,

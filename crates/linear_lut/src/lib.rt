@@ -1,10 +1,12 @@
 // linear_lut.rs: a table of points, and the straight lines between them.
+#![tactic(auto)]
+
 ghost use Rattle.std.specs.Prelude.{◌≡◌, ◌+◌, ◌-◌, ◌*◌, ◌/◌, ◌≤◌, ◌<◌, length};
 ghost use Rattle.linear_lut.specs.LinearLut.{segment, holds, within, among, call_get};
 
 use refusal::Refusal;
 
-#[derive(Drop)]
+#[derive(Clone, Copy)]
 pub struct Looked {
     pub refusal: Refusal,
     pub y: f32,

@@ -1,17 +1,19 @@
 // motor_lin.rs: the curve between a motor's command and its thrust.
+#![tactic(auto)]
+
 ghost use Rattle.std.specs.Prelude.{◌≡◌};
 ghost use Rattle.motor_lin.specs.MotorLin.{thrust_of, command_of, bad_motor, zero_motor, new_motor_lin, force_unless_bad, command_unless_bad, call_new_motor_lin, call_command_to_force, call_force_to_command, call_min_force, call_max_force};
 
 use refusal::Refusal;
 
 // The two units. One is not accepted where the other is asked for.
-#[derive(Drop)]
+#[derive(Clone, Copy)]
 pub struct Command(pub f32);
 
-#[derive(Drop)]
+#[derive(Clone, Copy)]
 pub struct Thrust(pub f32);
 
-#[derive(Drop)]
+#[derive(Clone, Copy)]
 pub struct MotorLin {
     pub a: f32,
     pub b: f32,
@@ -22,20 +24,20 @@ pub struct MotorLin {
 }
 
 // What the constructor gives: refused, the all-zero motor.
-#[derive(Drop)]
+#[derive(Clone, Copy)]
 pub struct Made {
     pub refusal: Refusal,
     pub motor: MotorLin,
 }
 
 // What a call that asks for a thrust, and one that asks for a command, give.
-#[derive(Drop)]
+#[derive(Clone, Copy)]
 pub struct Forced {
     pub refusal: Refusal,
     pub force: Thrust,
 }
 
-#[derive(Drop)]
+#[derive(Clone, Copy)]
 pub struct Commanded {
     pub refusal: Refusal,
     pub command: Command,

@@ -3,7 +3,7 @@
 ghost use Rattle.std.specs.Prelude.{◌≡◌};
 ghost use Rattle.notch.specs.Biquad.{new_biquad, with_params, step_biquad};
 
-#[derive(Drop)]
+#[derive(Clone, Copy)]
 pub struct BiquadParams {
     pub a0: f32,
     pub a1: f32,
@@ -14,7 +14,7 @@ pub struct BiquadParams {
 }
 
 // The history, newest first: samples in are x, samples out y.
-#[derive(Drop)]
+#[derive(Clone, Copy)]
 pub struct BiquadFilter {
     pub params: BiquadParams,
     pub x0: f32,
@@ -25,7 +25,7 @@ pub struct BiquadFilter {
     pub y2: f32,
 }
 
-#[derive(Drop)]
+#[derive(Clone, Copy)]
 pub struct BiquadFiltered {
     pub y: f32,
     pub filter: BiquadFilter,

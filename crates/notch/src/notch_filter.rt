@@ -7,7 +7,7 @@ use crate::biquad::{BiquadFilter, BiquadParams};
 // f32's pi, bits 40490fdb.
 const PI: f32 = 3.1415927;
 
-#[derive(Drop)]
+#[derive(Clone, Copy)]
 pub struct NotchFilter {
     pub fc: f32,
     pub fb: f32,
@@ -16,7 +16,7 @@ pub struct NotchFilter {
     pub biquad: BiquadFilter,
 }
 
-#[derive(Drop)]
+#[derive(Clone, Copy)]
 pub struct NotchFiltered {
     pub y: f32,
     pub filter: NotchFilter,

@@ -1,4 +1,6 @@
 // NumPy's .npy arrays, as far as document 01 takes them: the header, the cells, and results as words of hexadecimal digits.
+#![tactic(auto)]
+
 mod decoder;
 mod reader;
 mod writer;

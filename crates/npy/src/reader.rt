@@ -6,7 +6,7 @@ ghost use Rattle.npy.specs.Header.{low_first, cell_width, refused_head, text_hea
 use refusal::Refusal;
 
 // The element kinds that some array is accepted with; every other one is `Other`, which none is.
-#[derive(Drop)]
+#[derive(Clone, Copy)]
 pub enum Kind {
     F4,
     I2,
@@ -28,7 +28,7 @@ impl Kind {
 
 // What a header says: the element kind, the shape (rows, cols), and the place where the data begin. Refused, the kind is
 // `Other` and the numbers are 0.
-#[derive(Drop)]
+#[derive(Clone, Copy)]
 pub struct Head {
     pub refusal: Refusal,
     pub kind: Kind,
@@ -38,7 +38,7 @@ pub struct Head {
 }
 
 // Where the parts of a text that have no fixed length begin and end. X begins at 11 in every text.
-#[derive(Drop)]
+#[derive(Clone, Copy)]
 struct Places {
     kind_end: usize,
     rows: usize,

@@ -2,6 +2,8 @@
 // changes one where it lies. Every call, on a state built by hand too, refuses a stored slew limit that has a negative
 // sign or is NaN, and leaves the state as it was; but for `advance`, which takes the limiter off, and the tests `bad` and
 // `unlimited`.
+#![tactic(auto)]
+
 ghost use Rattle.std.specs.Prelude.{◌≡◌, false, cond, ◌&&◌};
 ghost use Rattle.std.specs.Float.Ieee.{lt};
 ghost use Rattle.float.specs.F32 as F;
@@ -16,7 +18,7 @@ use refusal::Refusal;
 pub use slew::Slew;
 
 // The numbers that the last update added up.
-#[derive(Drop)]
+#[derive(Clone, Copy)]
 pub struct PidTerms {
     pub p_out: f32,
     pub i_out: f32,
@@ -26,7 +28,7 @@ pub struct PidTerms {
 
 // The Rust's max_integral is always 1, and is no field here. A number that an update changes stands between two that it
 // does not: side by side, the compiler would keep them as one vector, and each would wait for the slowest of them.
-#[derive(Drop)]
+#[derive(Clone, Copy)]
 pub struct RatePid {
     pub kp: f32,
     pub integral: f32,
@@ -43,42 +45,42 @@ pub struct RatePid {
 }
 
 // What `slew` and the setters give: refused, the state is as it was.
-#[derive(Drop)]
+#[derive(Clone, Copy)]
 pub struct Changed {
     pub refusal: Refusal,
     pub pid: RatePid,
 }
 
 // What an update answers: refused, y is +0.
-#[derive(Drop)]
+#[derive(Clone, Copy)]
 pub struct Answer {
     pub refusal: Refusal,
     pub y: f32,
 }
 
 // The answer apart from the state, since the update in place gives the answer alone.
-#[derive(Drop)]
+#[derive(Clone, Copy)]
 pub struct Updated {
     pub answer: Answer,
     pub pid: RatePid,
 }
 
 // Refused, the four numbers are +0.
-#[derive(Drop)]
+#[derive(Clone, Copy)]
 pub struct Terms {
     pub refusal: Refusal,
     pub terms: PidTerms,
 }
 
 // The value of an update that cannot be refused, and the state after it.
-#[derive(Drop)]
+#[derive(Clone, Copy)]
 pub struct Advanced {
     pub y: f32,
     pub pid: RatePid,
 }
 
 // What an update makes of the integral and of the damping filter.
-#[derive(Drop)]
+#[derive(Clone, Copy)]
 struct Integrated {
     integral: f32,
     lowpass: Lowpass,

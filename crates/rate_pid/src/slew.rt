@@ -5,14 +5,14 @@ ghost use Rattle.rate_pid.specs.Slew.{is_off, bad_slew, set_dt_slew, step_slew};
 
 use filters::SlewRate;
 
-#[derive(Drop)]
+#[derive(Clone, Copy)]
 pub enum Slew {
     Off,
     On(SlewRate),
 }
 
 // The reference as the limiter lets it through, and the limiter after it.
-#[derive(Drop)]
+#[derive(Clone, Copy)]
 pub struct Slewed {
     pub y: f32,
     pub slew: Slew,

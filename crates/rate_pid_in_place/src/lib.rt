@@ -1,4 +1,6 @@
 // The rate controller's update where it lies, for callers whose own proof is not written by hand: it lends a local of its own.
+#![tactic(auto)]
+
 ghost use Rattle.std.specs.Prelude.{◌≡◌};
 ghost use Rattle.rate_pid.specs.RatePid.{call_update_rate_pid};
 

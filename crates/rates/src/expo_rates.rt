@@ -2,13 +2,13 @@
 ghost use Rattle.std.specs.Prelude.{◌≡◌};
 ghost use Rattle.rates.specs.ExpoRates.{expo_default, new_expo, apply_expo, actual_rates, kiss_rates};
 
-#[derive(Drop)]
+#[derive(Clone, Copy)]
 pub enum RatesType {
     Actual,
     Kiss,
 }
 
-#[derive(Drop)]
+#[derive(Clone, Copy)]
 pub struct ExpoRates {
     pub rates_type: RatesType,
     pub expo: f32,

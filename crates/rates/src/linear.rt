@@ -4,14 +4,14 @@ ghost use Rattle.rates.specs.Linear.{new_linear, linear_default, map_linear, par
 
 use crate::line;
 
-#[derive(Drop)]
+#[derive(Clone, Copy)]
 pub struct Linear {
     pub factor: f32,
     pub offset: f32,
 }
 
 // A line's two numbers.
-#[derive(Drop)]
+#[derive(Clone, Copy)]
 pub struct Params(pub f32, pub f32);
 
 impl Linear {

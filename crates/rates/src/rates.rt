@@ -5,7 +5,7 @@ ghost use Rattle.rates.specs.Rates.{rates_default, actual_default, linear_curve_
 use crate::line;
 
 // A curve: none, one with an "expo" response, or a straight line.
-#[derive(Drop)]
+#[derive(Clone, Copy)]
 pub enum Rates {
     Identity,
     Actual { rate: f32, expo: f32, cent: f32 },
@@ -14,7 +14,7 @@ pub enum Rates {
 
 // The numbers of an `Actual` curve: the rate of change at full deflection, how far its effect is pushed from the centre, and the
 // rate of change around the centre.
-#[derive(Drop)]
+#[derive(Clone, Copy)]
 pub struct Actual {
     pub rate: f32,
     pub expo: f32,
@@ -22,7 +22,7 @@ pub struct Actual {
 }
 
 // The numbers of a `Linear` curve, fact · x + offs.
-#[derive(Drop)]
+#[derive(Clone, Copy)]
 pub struct Linear {
     pub fact: f32,
     pub offs: f32,

@@ -1,9 +1,11 @@
 // The refusals of document 01 and of the change requests, each named once. An answer that can be refused holds one of these beside its
 // numbers.
+#![tactic(auto)]
+
 ghost use Rattle.std.specs.Prelude.{◌≡◌};
 ghost use Rattle.refusal.specs.Refusal.{number_of, passes};
 
-#[derive(Drop)]
+#[derive(Clone, Copy)]
 pub enum Refusal {
     // Nothing is refused.
     None,

@@ -1,5 +1,7 @@
 // A replay from standard input to standard output: settings and trace as two .npy arrays in, a line a row out, in constant memory whatever
 // the length. A refusal's line goes to standard error too; a read or a write that fails ends the program, which then says so there.
+#![tactic(auto)]
+
 ghost use Rattle.std.specs.Prelude.{◌-◌, ◌≤◌, length};
 
 use libc::{STDERR_FILENO, STDIN_FILENO, STDOUT_FILENO};
@@ -7,14 +9,14 @@ use refusal::Refusal;
 use trace::{Begun, Course};
 
 // What one read gave.
-#[derive(Drop)]
+#[derive(Clone, Copy)]
 struct More {
     n: usize,
     ok: bool,
 }
 
 // A trace under way, where its bytes that are not yet taken begin and end in the buffer, and whether it goes on.
-#[derive(Drop)]
+#[derive(Clone, Copy)]
 struct Stream {
     course: Course,
     from: usize,

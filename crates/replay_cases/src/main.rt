@@ -1,5 +1,7 @@
 // Replays files in memory, one after the other: on standard input each file after its length in four bytes, low byte first; on standard
 // output the text of each, and a line `--` after it. The gate and the comparison run it on many files at once.
+#![tactic(auto)]
+
 ghost use Rattle.std.specs.Prelude.{◌<◌};
 
 use libc::{STDIN_FILENO, STDOUT_FILENO};

@@ -1,6 +1,8 @@
 // f32::sqrt: the square root of an f32, rounded once. A guess from float arithmetic is tested over whole numbers; where it
 // fails, and for what is no finite number above zero, the search answers. Only `sqrt` is public; its contract is the seam
 // at which the inside can be replaced.
+#![tactic(auto)]
+
 ghost use Rattle.std.specs.Prelude.{◌≡◌, true, ◌+◌, ◌-◌, ◌^◌, ◌≤◌, ◌<◌};
 ghost use Rattle.std.specs.Float.Ieee.{lt, to_bits};
 ghost use Rattle.std.specs.Float.{binary32};

@@ -5,7 +5,7 @@ ghost use Rattle.root.specs.Root.{root, root_bits};
 ghost use Rattle.root.specs.Post.{IsParts, IsRounded};
 
 // A number above zero as m · 2^e, in units of 2^-275.
-#[derive(Drop)]
+#[derive(Clone, Copy)]
 struct Parts {
     m: u64,
     e: u64,

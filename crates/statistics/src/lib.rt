@@ -1,10 +1,12 @@
 // statistics.rs: a running mean and variance that forget old samples.
+#![tactic(auto)]
+
 ghost use Rattle.std.specs.Prelude.{◌≡◌};
 ghost use Rattle.statistics.specs.Statistics.{bad_alpha, zero_statistics, call_new_statistics, sampled, call_add_sample, call_mean_var, call_std_dev};
 
 use refusal::Refusal;
 
-#[derive(Drop)]
+#[derive(Clone, Copy)]
 pub struct Statistics {
     pub initialized: bool,
     pub alpha: f32,
@@ -13,20 +15,20 @@ pub struct Statistics {
 }
 
 // What the constructor and a sample give: refused, the constructor's state is all-zero and a sample's is as it was.
-#[derive(Drop)]
+#[derive(Clone, Copy)]
 pub struct Changed {
     pub refusal: Refusal,
     pub statistics: Statistics,
 }
 
-#[derive(Drop)]
+#[derive(Clone, Copy)]
 pub struct MeanVar {
     pub refusal: Refusal,
     pub mean: f32,
     pub variance: f32,
 }
 
-#[derive(Drop)]
+#[derive(Clone, Copy)]
 pub struct StdDev {
     pub refusal: Refusal,
     pub y: f32,

@@ -4,7 +4,7 @@ use npy::Kind;
 use refusal::Refusal;
 
 // A trace under way: the element kind of its cells, how many lanes a row has, how many rows are still to come, and the lanes.
-#[derive(Drop)]
+#[derive(Clone, Copy)]
 pub struct Course {
     pub kind: Kind,
     pub lanes: usize,
@@ -13,7 +13,7 @@ pub struct Course {
 }
 
 // What the start of a file says: where the first row begins. Refused, there are no lanes and no rows, the bank is fresh, and the place is 0.
-#[derive(Drop)]
+#[derive(Clone, Copy)]
 pub struct Begun {
     pub refusal: Refusal,
     pub course: Course,
@@ -23,7 +23,7 @@ pub struct Begun {
 // What a call of `rows` did: what the first refused row was refused with, the trace after the rows that it took (and, where one was refused, after
 // the updates of that row before the refused one), how many rows these were, how many bytes of the window they had, and how many bytes of text it
 // wrote.
-#[derive(Drop)]
+#[derive(Clone, Copy)]
 pub struct RowsTaken {
     pub refusal: Refusal,
     pub course: Course,
@@ -33,14 +33,14 @@ pub struct RowsTaken {
 }
 
 // What a trace comes to: what it is refused with, and how many rows come before that.
-#[derive(Drop)]
+#[derive(Clone, Copy)]
 pub struct Measured {
     pub refusal: Refusal,
     pub rows: usize,
 }
 
 // What a whole file comes to: what it is refused with, how many bytes its text has, and whether the text was written.
-#[derive(Drop)]
+#[derive(Clone, Copy)]
 pub struct Replayed {
     pub refusal: Refusal,
     pub need: usize,

@@ -1,4 +1,6 @@
 // A replay on slices: settings and a trace, both .npy arrays, in; a line a row out.
+#![tactic(auto)]
+
 mod course;
 mod going;
 mod measure;

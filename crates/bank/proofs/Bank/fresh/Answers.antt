@@ -1,0 +1,7 @@
+use Rattle.bank.specs.Bank.{fresh_bank}
+use borrow.Author.Rules.{rules}
+use Rattle.bank.proofs.Bank.fresh.Goals as goal
+
+pub returns : goal.returns
+unfolding fresh_bank
+returns c = cc

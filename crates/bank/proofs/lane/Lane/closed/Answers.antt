@@ -1,0 +1,7 @@
+use Rattle.bank.specs.Lane.{closed_lane}
+use borrow.Author.Rules.{rules}
+use Rattle.bank.proofs.lane.Lane.closed.Goals as goal
+
+pub returns : goal.returns
+unfolding closed_lane
+returns c = cc

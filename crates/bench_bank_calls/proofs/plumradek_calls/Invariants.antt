@@ -1,0 +1,11 @@
+use Rattle.bench_updates.specs.Updates.{start, turn, ended}
+use Rattle.bench_bank_calls.specs.Calls.{BankRun, bank_after, bank_out_after, call_in_turn}
+use Prim.Native.Nat.{◌-◌}
+use native.Mathlib.Omega.{arith}
+use Rattle.bench_bank_calls.proofs.plumradek_calls.Given as goal
+
+abbrev pub invariant-loop-i : goal.invariant-loop-i
+invariant-loop-i l = BankRun l.settings l.cells l.initial.out l.n l.i l.bank l.out
+
+abbrev pub decreases-loop-i : goal.decreases-loop-i
+decreases-loop-i l = l.n - l.i

@@ -1,0 +1,7 @@
+use Rattle.bench_updates.specs.Updates.{new_of}
+use borrow.Author.Rules.{rules}
+use Rattle.bench_updates.proofs.new.Goals as goal
+
+pub returns : goal.returns
+unfolding new_of
+returns c = cc

@@ -1,0 +1,10 @@
+use Rattle.bench_updates.specs.Updates.{PidRun, start, turn, ended, pid_after, out_after, update_at}
+use Prim.Native.Nat.{◌-◌}
+use native.Mathlib.Omega.{arith}
+use Rattle.bench_updates.proofs.plumradek_updates.Given as goal
+
+abbrev pub invariant-loop-i : goal.invariant-loop-i
+invariant-loop-i l = PidRun l.settings l.cells l.initial.out l.n l.i l.pid l.out
+
+abbrev pub decreases-loop-i : goal.decreases-loop-i
+decreases-loop-i l = l.n - l.i

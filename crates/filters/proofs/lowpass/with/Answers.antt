@@ -1,0 +1,7 @@
+use borrow.Author.Rules.{rules}
+use Rattle.filters.specs.Lowpass.{lowpass_of}
+use Rattle.filters.proofs.lowpass.with.Goals as goal
+
+pub returns : goal.returns
+unfolding lowpass_of
+returns c = cc

@@ -1,0 +1,11 @@
+use Rattle.float.proofs.Ties.{clamp_low, clamp_high, clamp_keeps}
+use Rattle.float.proofs.clamp.Goals as goal
+
+pub returns-then-x-low : goal.returns-then-x-low
+returns-then-x-low c = clamp_low _ _ _ c.if-x-low.true
+
+pub returns-then-x-high : goal.returns-then-x-high
+returns-then-x-high c = clamp_high _ _ _ c.if-x-low.false c.if-x-high.true
+
+pub returns-else-x-high : goal.returns-else-x-high
+returns-else-x-high c = clamp_keeps _ _ _ c.if-x-low.false c.if-x-high.false

@@ -1,0 +1,7 @@
+use borrow.Author.Rules.{rules}
+use Rattle.motor_lin.specs.MotorLin.{command_of}
+use Rattle.motor_lin.proofs.command_of.Goals as goal
+
+pub returns : goal.returns
+unfolding command_of
+returns c = cc

@@ -1,0 +1,14 @@
+use Rattle.npy.specs.Text.{begins}
+use Rattle.npy.specs.TextLaws.{begins_end, begins-short, begins-differ, begins_more}
+use mathlib.Core.Path.{◌≡◌, refl, ◌∙◌}
+use Prim.Native.Nat.{◌-◌}
+use native.Mathlib.Omega.{arith}
+use lib.ListN.{length, drop}
+use borrow.Author.Tests.{eq-eqb, ne_eqb}
+use Rattle.npy.proofs.reader.holds.Given as goal
+
+abbrev pub invariant-loop-j : goal.invariant-loop-j
+invariant-loop-j l = begins (drop l.i l.s) (drop l.j l.w) ≡ begins (drop l.at l.s) l.w
+
+abbrev pub decreases-loop-j : goal.decreases-loop-j
+decreases-loop-j l = length l.w - l.j

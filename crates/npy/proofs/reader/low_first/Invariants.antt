@@ -1,0 +1,16 @@
+use Prim.Native.Nat.{◌^◌}
+use lib.ListN.{take}
+use native.Mathlib.Nat.{sub_self}
+use Rattle.npy.specs.Header.{low_first}
+use Rattle.npy.specs.HeaderLaws.{low_more, low_none, low_all, byte_more, low_fits}
+use mathlib.Core.Path.{◌≡◌, ap, ◌∙◌}
+use Prim.Native.Nat.{ℕ, ◌≤◌, ◌<◌, ◌-◌, ◌+◌, ◌*◌}
+use native.Mathlib.Omega.{arith}
+use lib.ListN.{drop}
+use Rattle.npy.proofs.reader.low_first.Given as goal
+
+abbrev pub invariant-loop-i : goal.invariant-loop-i
+invariant-loop-i l = (l.v ≡ low_first (take (l.w - l.i) (drop l.i l.s))) × (l.v < 256 ^ (l.w - l.i)) × (l.i ≤ l.w)
+
+abbrev pub decreases-loop-i : goal.decreases-loop-i
+decreases-loop-i l = l.i

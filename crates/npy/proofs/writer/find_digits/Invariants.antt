@@ -1,0 +1,13 @@
+use mathlib.Core.Path.{◌≡◌, refl, ◌∙◌}
+use Prim.Native.Nat.{◌*◌, ◌-◌, ◌≤◌}
+use native.Mathlib.Omega.{arith}
+use lib.ListN.{length, drop, length-set}
+use lib.Seq.{sets}
+use Rattle.npy.specs.PackedDigits.{packed_digits, packed_more, packed_done}
+use Rattle.npy.proofs.writer.find_digits.Given as goal
+
+abbrev pub invariant-loop-i : goal.invariant-loop-i
+invariant-loop-i l = (sets l.digits (2 * l.i) (packed_digits (drop l.i l.values)) ≡ sets l.initial.digits 0 (packed_digits l.values)) × (length l.digits ≡ length l.initial.digits) × (l.i ≤ length l.values)
+
+abbrev pub decreases-loop-i : goal.decreases-loop-i
+decreases-loop-i l = length l.values - l.i

@@ -1,0 +1,16 @@
+use mathlib.Core.Path.{◌≡◌, refl, ap, ◌∙◌}
+use Prim.Native.Nat.{◌+◌, ◌*◌, ◌-◌, ◌≤◌}
+use native.Mathlib.Nat.{add-zero}
+use native.Mathlib.Omega.{arith}
+use lib.ListN.{length, drop, length-take, length-drop}
+use lib.Seq.{sets, length-sets}
+use borrow.Author.Rules.{rules}
+use Rattle.npy.specs.LineMaking.{words_of}
+use Rattle.npy.specs.LineMakingLaws.{words_more, words_done}
+use Rattle.npy.proofs.writer.put_words.Given as goal
+
+abbrev pub invariant-loop-i : goal.invariant-loop-i
+invariant-loop-i l = (sets l.out (l.at + 9 * l.i) (words_of l.after (drop l.i l.values)) ≡ sets l.initial.out l.at (words_of l.after l.values)) × (length l.out ≡ length l.initial.out) × (length l.digits ≡ 128) × (l.i ≤ length l.values)
+
+abbrev pub decreases-loop-i : goal.decreases-loop-i
+decreases-loop-i l = length l.values - l.i

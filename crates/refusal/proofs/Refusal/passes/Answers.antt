@@ -1,0 +1,7 @@
+use Rattle.refusal.specs.Refusal.{passes}
+use borrow.Author.Rules.{rules}
+use Rattle.refusal.proofs.Refusal.passes.Goals as goal
+
+pub returns : goal.returns
+unfolding passes
+returns c = rw c.number.ensures

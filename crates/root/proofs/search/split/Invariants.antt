@@ -1,0 +1,12 @@
+use mathlib.Core.Path.{◌≡◌, refl}
+use Prim.Native.Nat.{◌-◌, ◌*◌, ◌^◌, ◌≤◌, ◌<◌}
+use native.Mathlib.Omega.{arith}
+use Rattle.root.proofs.Assemble.{split-normal, some_left, one_step}
+use Rattle.root.specs.Patterns.{scaled_small}
+use Rattle.root.proofs.search.split.Given as goal
+
+abbrev pub invariant-loop-m : goal.invariant-loop-m
+invariant-loop-m l = (0 < l.m) × (l.m < 2 ^ 24) × (l.e ≤ 126) × (l.m * 2 ^ l.e ≡ l.b * 2 ^ 126)
+
+abbrev pub decreases-loop-m : goal.decreases-loop-m
+decreases-loop-m l = 2 ^ 23 - l.m

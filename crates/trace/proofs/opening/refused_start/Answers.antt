@@ -1,0 +1,7 @@
+use Rattle.trace.specs.Trace.{refused_start}
+use borrow.Author.Rules.{rules}
+use Rattle.trace.proofs.opening.refused_start.Goals as goal
+
+pub returns : goal.returns
+unfolding refused_start
+returns c = rw c.fresh-bank.ensures

@@ -1,0 +1,14 @@
+use lib.ListN.{length-set}
+use lib.Seq.{sets}
+use Rattle.trace.specs.EndLaws.{text-more, text_done}
+use mathlib.Core.Path.{◌≡◌, refl, ◌∙◌}
+use Prim.Native.Nat.{◌≤◌, ◌-◌, ◌+◌}
+use native.Mathlib.Omega.{arith}
+use lib.ListN.{length, drop}
+use Rattle.trace.proofs.refusal_line.put.Given as goal
+
+abbrev pub invariant-loop-i : goal.invariant-loop-i
+invariant-loop-i l = (sets l.out l.o (drop l.i l.text) ≡ sets l.initial.out l.at l.text) × (length l.out ≡ length l.initial.out) × (l.o ≡ l.at + l.i) × (l.i ≤ length l.text)
+
+abbrev pub decreases-loop-i : goal.decreases-loop-i
+decreases-loop-i l = length l.text - l.i

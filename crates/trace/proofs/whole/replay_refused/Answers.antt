@@ -1,0 +1,6 @@
+use Rattle.trace.specs.ReplayLaws.{refused_answer}
+use borrow.Author.Rules.{rules}
+use Rattle.trace.proofs.whole.replay_refused.Goals as goal
+
+pub returns : goal.returns
+returns c = refused_answer _ _ _ _ _ c.requires c.reason_length-need.ensures.0 c.refused_line.ensures
