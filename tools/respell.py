@@ -20,6 +20,10 @@ LOCAL = {
     "crates/trace/proofs/ThreePasses.antt": {"lines_fit": "lines_fit_lem"},
 }
 
+# Fields of this repository's own records.
+with open(os.path.join(HERE, "respelled_fields.txt"), encoding="utf-8") as it:
+    FIELDS = set(it.read().split())
+
 
 def read_table(name):
     with open(os.path.join(HERE, name), encoding="utf-8") as it:
@@ -40,7 +44,7 @@ def turned(text, table, own):
             return w
         if "-" in w and m.start() and text[m.start() - 1] == ".":
             head = re.search(r"[^\s(){};,@\"«»]*\.$", text[: m.start()]).group(0)
-            if not head[:1].isupper():
+            if not head[:1].isupper() and w not in FIELDS:
                 return w
         return new
 

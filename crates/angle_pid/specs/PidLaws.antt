@@ -253,7 +253,7 @@ update_parts s error ts = go (passes (pid_refusal s)) refl (passes (wrap_error s
 
 same_refusal : (s next : Pid) → SameParts s next → pid_refusal next ≡ pid_refusal s
 unfolding pid_refusal
-same_refusal s next p = rw (p.same-wrapping, p.same-limit, p.same-windup, p.same-tau)
+same_refusal s next p = rw (p.same_wrapping, p.same_limit, p.same_windup, p.same_tau)
 
 pub step_parts : (s : Pid) (error ts : Float) → pid_refusal (step_pid s error ts).pid ≡ pid_refusal s
 step_parts s error ts = same_refusal s (step_pid s error ts).pid (step_same s error ts)

@@ -111,7 +111,7 @@ module _ (x r c : List ℕ) (n : ℕ) (p : HeaderParts x r c) where
       let k : kind_end T - 11 ≡ length x = omega (arith, x_ends) in
       let m : rows_end T - rows_at T ≡ length r = omega (arith, rows_end_lem) in
       let o : cols_end T - cols_at T ≡ length c = omega (arith, cols_end_lem) in
-      simp (k, m, o, at_before_rows, at_before_cols, at_after_cols, at_feed, first_of T r _ (rows_at T) at_rows (number_size _ _ p.rows-number).0, first_of T c _ (cols_at T) at_cols (number_size _ _ p.cols-number).0, p.kind-size, p.rows-number, p.cols-number, begins_own, eq-eqb _ _ ends_there, opens_so, begins_own line_feed [])
+      simp (k, m, o, at_before_rows, at_before_cols, at_after_cols, at_feed, first_of T r _ (rows_at T) at_rows (number_size _ _ p.rows_number).0, first_of T c _ (cols_at T) at_cols (number_size _ _ p.cols_number).0, p.kind_size, p.rows_number, p.cols_number, begins_own, eq-eqb _ _ ends_there, opens_so, begins_own line_feed [])
 
   -- document 01's text is read as its parts say, wherever the data begin
   pub header_text_read : (at : ℕ) → text_head T at ≡ accepted_head (kind_of x (length x)) (decimal 0 r) (decimal 0 c) at

@@ -92,7 +92,7 @@ nearest_at b B h =
     let below = y - 1 in
     let above = y + 1 in
     let r = is_root b B h in
-    let some : below < y = smaller below y r.p-below in
+    let some : below < y = smaller below y r.p_below in
     let far : y < 254 * 2 ^ 23 = root_finite b (omega arith) in
     record {
       p = of_bits binary32 below;
@@ -103,10 +103,10 @@ nearest_at b B h =
       y_units = scaled y;
       p_units = scaled below;
       s_units = scaled above;
-      x_value = r.x-value;
-      y_value = r.y-value;
-      p_value = r.p-value;
-      s_value = r.s-value;
+      x_value = r.x_value;
+      y_value = r.y_value;
+      p_value = r.p_value;
+      s_value = r.s_value;
       not-less = r.not-less;
       not_more = r.not_more;
     }
@@ -155,7 +155,7 @@ is_positive (fin false (suc m) e) fit h k =
 
 -- The root of a binary32 above zero and below infinity keeps the rule, and nothing else does.
 pub root-keeps-rule : (x : Float) → T (fits binary32 x) → lt F.zero x ≡ true → lt x (inf false) ≡ true → NearestRoot x (root x)
-root-keeps-rule x fit h k = let i = is_positive x fit h k in rw (← i.root_is) (subst (λ (z : Float). NearestRoot z (of_bits binary32 (root_bits i.bits))) i.x-is (nearest_at i.bits i.some i.finite))
+root-keeps-rule x fit h k = let i = is_positive x fit h k in rw (← i.root_is) (subst (λ (z : Float). NearestRoot z (of_bits binary32 (root_bits i.bits))) i.x_is (nearest_at i.bits i.some i.finite))
 
 pub only_root_keeps_rule : (x y : Float) → T (fits binary32 x) → lt F.zero x ≡ true → lt x (inf false) ≡ true → NearestRoot x y → y ≡ root x
-only_root_keeps_rule x y fit h k R = let i = is_positive x fit h k in only_at i.bits i.some i.finite y (subst (λ (z : Float). NearestRoot z y) (sym i.x-is) R) ∙ i.root_is
+only_root_keeps_rule x y fit h k R = let i = is_positive x fit h k in only_at i.bits i.some i.finite y (subst (λ (z : Float). NearestRoot z y) (sym i.x_is) R) ∙ i.root_is

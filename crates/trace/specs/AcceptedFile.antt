@@ -26,14 +26,14 @@ pub accepted_unrefused : (s : List ℕ) → AcceptedFile s → replay_refusal s 
 unfolding rest_refusal
 accepted_unrefused s a =
     let c = (call_start s).course in
-    accepted_refusal s a.start-passes ∙ (rows_cut c.left c (bytes_after_start s) a.rows).1
+    accepted_refusal s a.start_passes ∙ (rows_cut c.left c (bytes_after_start s) a.rows).1
     ∙ spent_rest (after_rows c.left c (bytes_after_start s)) (drop (c.left * row_width c) (bytes_after_start s)) (after-left c.left c (bytes_after_start s) ∙ omega arith)
     ∙ rw a.rest
 
 -- it prints the lines of its rows and nothing else
 pub accepted-text : (s : List ℕ) → AcceptedFile s → replay_of s ≡ row_lines (call_start s).course.left (call_start s).course (bytes_after_start s)
 unfolding reason_text passes
-accepted-text s a = accepted_prints s (call_start s).course.left a.start-passes (accepted_all s a) ∙ rw (accepted_unrefused s a, append-nil)
+accepted-text s a = accepted_prints s (call_start s).course.left a.start_passes (accepted_all s a) ∙ rw (accepted_unrefused s a, append-nil)
 
 -- ---- and where nothing of it is refused, it is accepted
 

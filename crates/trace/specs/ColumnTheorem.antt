@@ -82,4 +82,4 @@ same-column s t L n m k r es et ws wt l e hn hm hk =
 pub equal_columns : (s t : List ℕ) (L : ℕ) → AcceptedFile s → AcceptedFile t → (call_start s).course.left ≡ (call_start t).course.left → L < lanes_of s
     → SameLane s t L (call_start s).course.left → (r : ℕ) → r < (call_start s).course.left → printed_word s L r ≡ printed_word t L r
 equal_columns s t L a b same l e r h =
-    same-column s t L (call_start s).course.left (call_start s).course.left (call_start t).course.left r a.start-passes b.start-passes a.rows b.rows l e h h (omega arith)
+    same-column s t L (call_start s).course.left (call_start s).course.left (call_start t).course.left r a.start_passes b.start_passes a.rows b.rows l e h h (omega arith)
