@@ -11,7 +11,7 @@ use Rattle.trace.proofs.opening.trace_start.Goals as goal
 -- part-header-end c = search rules
 
 pub returns-then-not-passes : goal.returns-then-not-passes
-returns-then-not-passes c = trace_refused _ _ _ _ _ _ _ _ c.header-head.ensures c.trace_refusal-why.ensures c.passes.ensures (not-true _ c.if-not-passes.true) c.refused_start.ensures
+returns-then-not-passes c = trace_refused _ _ _ _ _ _ _ _ c.header-head.ensures c.trace_refusal-why.ensures c.passes.ensures c.if-not-passes.true c.refused_start.ensures
 
 pub overflow_add-first : goal.overflow_add-first
 overflow_add-first c =
@@ -19,4 +19,4 @@ overflow_add-first c =
     omega (arith, place-within from.at from.bytes.now _ c.header-head.ensures)
 
 pub returns : goal.returns
-returns c = trace_started _ _ _ _ _ _ _ c.header-head.ensures c.trace_refusal-why.ensures c.passes.ensures (not-false _ c.if-not-passes.false)
+returns c = trace_started _ _ _ _ _ _ _ c.header-head.ensures c.trace_refusal-why.ensures c.passes.ensures c.if-not-passes.false

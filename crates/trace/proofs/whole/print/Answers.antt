@@ -51,13 +51,13 @@ shape_of-values-then-not-passes c = as_long_still c.loop-going.values _ (row_val
 pub shape_of-out-then-not-passes : goal.shape_of-out-then-not-passes
 shape_of-out-then-not-passes c =
     ap length (print_refused c.args.trace.now c.args.out.now c.args.course c.loop-going.out c.loop-going.going c.loop-going.at c.loop-going.o c.loop-going.invariant.0
-    (length c.loop-going.cells) (length c.loop-going.values) _ _ c.loop-going-test.true c.rows-went.ensures.0 c.rows-went.ensures.3 _ c.passes.ensures (not-true _ c.if-not-passes.true))
+    (length c.loop-going.cells) (length c.loop-going.values) _ _ c.loop-going-test.true c.rows-went.ensures.0 c.rows-went.ensures.3 _ c.passes.ensures c.if-not-passes.true)
     ∙ length-sets c.args.out.now 0 (course_lines c.args.course c.args.trace.now)
 
 pub returns-then-not-passes : goal.returns-then-not-passes
 returns-then-not-passes c =
     print_refused c.args.trace.now c.args.out.now c.args.course c.loop-going.out c.loop-going.going c.loop-going.at c.loop-going.o c.loop-going.invariant.0
-    (length c.loop-going.cells) (length c.loop-going.values) _ _ c.loop-going-test.true c.rows-went.ensures.0 c.rows-went.ensures.3 _ c.passes.ensures (not-true _ c.if-not-passes.true)
+    (length c.loop-going.cells) (length c.loop-going.values) _ _ c.loop-going-test.true c.rows-went.ensures.0 c.rows-went.ensures.3 _ c.passes.ensures c.if-not-passes.true
 
 pub shape_of-cells-then-went-eq0 : goal.shape_of-cells-then-went-eq0
 shape_of-cells-then-went-eq0 c = as_long_still c.loop-going.cells _ (row_cells _ _ _) c.rows-went.ensures.1 ∙ c.loop-going.invariant.1
@@ -69,14 +69,14 @@ pub shape_of-out-then-went-eq0 : goal.shape_of-out-then-went-eq0
 shape_of-out-then-went-eq0 c =
     ap length (print_none c.args.trace.now c.args.out.now c.args.course c.loop-going.out c.loop-going.going c.loop-going.at c.loop-going.o c.loop-going.invariant.0
     (length c.loop-going.cells) (length c.loop-going.values) _ _ c.loop-going-test.true c.rows-went.ensures.0 c.rows-went.ensures.3
-    (omega (arith, c.requires.triples, c.loop-going.invariant.1)) (omega (arith, c.requires.results, c.loop-going.invariant.2)) _ c.passes.ensures (not-false _ c.if-not-passes.false) c.if-went-eq0.true)
+    (omega (arith, c.requires.triples, c.loop-going.invariant.1)) (omega (arith, c.requires.results, c.loop-going.invariant.2)) _ c.passes.ensures c.if-not-passes.false c.if-went-eq0.true)
     ∙ length-sets c.args.out.now 0 (course_lines c.args.course c.args.trace.now)
 
 pub returns-then-went-eq0 : goal.returns-then-went-eq0
 returns-then-went-eq0 c =
     print_none c.args.trace.now c.args.out.now c.args.course c.loop-going.out c.loop-going.going c.loop-going.at c.loop-going.o c.loop-going.invariant.0
     (length c.loop-going.cells) (length c.loop-going.values) _ _ c.loop-going-test.true c.rows-went.ensures.0 c.rows-went.ensures.3
-    (omega (arith, c.requires.triples, c.loop-going.invariant.1)) (omega (arith, c.requires.results, c.loop-going.invariant.2)) _ c.passes.ensures (not-false _ c.if-not-passes.false) c.if-went-eq0.true
+    (omega (arith, c.requires.triples, c.loop-going.invariant.1)) (omega (arith, c.requires.results, c.loop-going.invariant.2)) _ c.passes.ensures c.if-not-passes.false c.if-went-eq0.true
 
 pub overflow_add-at : goal.overflow_add-at
 overflow_add-at c = omega (arith, there_here c.args.trace.now c.loop-going.going c.loop-going.at (length c.loop-going.cells) (length c.loop-going.values) _ _ c.rows-went.ensures.0 c.loop-going.invariant.0.there)
@@ -86,7 +86,7 @@ overflow_add-o c =
     omega (
       arith,
       (print_on c.args.trace.now c.args.out.now c.args.course c.loop-going.out c.loop-going.going c.loop-going.at c.loop-going.o c.loop-going.invariant.0
-          (length c.loop-going.cells) (length c.loop-going.values) _ _ c.loop-going-test.true c.rows-went.ensures.0 c.rows-went.ensures.3 _ c.passes.ensures (not-false _ c.if-not-passes.false)).fits,
+          (length c.loop-going.cells) (length c.loop-going.values) _ _ c.loop-going-test.true c.rows-went.ensures.0 c.rows-went.ensures.3 _ c.passes.ensures c.if-not-passes.false).fits,
       c.well_formed.1.1.1.1.0.0,
     )
 
@@ -97,7 +97,7 @@ pub loop-going-preserved : goal.loop-going-preserved
 loop-going-preserved c =
     (
       print_on c.args.trace.now c.args.out.now c.args.course c.loop-going.out c.loop-going.going c.loop-going.at c.loop-going.o c.loop-going.invariant.0
-          (length c.loop-going.cells) (length c.loop-going.values) _ _ c.loop-going-test.true c.rows-went.ensures.0 c.rows-went.ensures.3 _ c.passes.ensures (not-false _ c.if-not-passes.false),
+          (length c.loop-going.cells) (length c.loop-going.values) _ _ c.loop-going-test.true c.rows-went.ensures.0 c.rows-went.ensures.3 _ c.passes.ensures c.if-not-passes.false,
       as_long_still c.loop-going.cells _ (row_cells _ _ _) c.rows-went.ensures.1 ∙ c.loop-going.invariant.1,
       as_long_still c.loop-going.values _ (row_values _ _ _) c.rows-went.ensures.2 ∙ c.loop-going.invariant.2,
     )

@@ -15,18 +15,18 @@ replay_refused-requires c = sym c.passes.ensures ∙ not-true _ c.if-not-passes.
 
 pub returns-then-not-passes : goal.returns-then-not-passes
 returns-then-not-passes c =
-    let is = replay_of-refused c.args.bytes.now _ _ c.start-begun.ensures c.passes.ensures (not-true _ c.if-not-passes.true) in
+    let is = replay_of-refused c.args.bytes.now _ _ c.start-begun.ensures c.passes.ensures c.if-not-passes.true in
     rw (is.0, is.1) c.replay_refused.ensures
 
 pub slice_bounds-replay_trace-count : goal.slice_bounds-replay_trace-count
-slice_bounds-replay_trace-count c = (start_bounds_from c.args.bytes.now _ _ c.start-begun.ensures c.passes.ensures (not-false _ c.if-not-passes.false)).there
+slice_bounds-replay_trace-count c = (start_bounds_from c.args.bytes.now _ _ c.start-begun.ensures c.passes.ensures c.if-not-passes.false).there
 
 pub replay_trace-requires : goal.replay_trace-requires
 replay_trace-requires c =
-    let good = start_bounds_from c.args.bytes.now _ _ c.start-begun.ensures c.passes.ensures (not-false _ c.if-not-passes.false) in
+    let good = start_bounds_from c.args.bytes.now _ _ c.start-begun.ensures c.passes.ensures c.if-not-passes.false in
     (good.lanes, good.few)
 
 pub returns : goal.returns
 returns c =
-    let is = replay_of_trace c.args.bytes.now _ _ c.start-begun.ensures c.passes.ensures (not-false _ c.if-not-passes.false) in
+    let is = replay_of_trace c.args.bytes.now _ _ c.start-begun.ensures c.passes.ensures c.if-not-passes.false in
     rw (is.0, is.1) c.replay_trace.ensures
