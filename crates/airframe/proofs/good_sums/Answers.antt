@@ -20,16 +20,16 @@ module _ (a b d e : Bool) where
 
 pub returns-then-not-good_sum : goal.returns-then-not-good_sum
 unfolding good_sums
-returns-then-not-good_sum c = fails-1 _ _ _ _ (sym c.good_sum.ensures ∙ not-true _ c.if-not-good_sum.true)
+returns-then-not-good_sum c = fails-1 _ _ _ _ (sym c.good_sum.ensures ∙ c.if-not-good_sum.true)
 
 pub returns-then-not-good_sum-2 : goal.returns-then-not-good_sum-2
 unfolding good_sums
-returns-then-not-good_sum-2 c = fails-2 _ _ _ _ (sym c.good_sum.ensures ∙ not-false _ c.if-not-good_sum.false) (sym c.good_sum-2.ensures ∙ not-true _ c.if-not-good_sum-2.true)
+returns-then-not-good_sum-2 c = fails-2 _ _ _ _ (sym c.good_sum.ensures ∙ c.if-not-good_sum.false) (sym c.good_sum-2.ensures ∙ c.if-not-good_sum-2.true)
 
 pub returns-then-not-good_sum-3 : goal.returns-then-not-good_sum-3
 unfolding good_sums
-returns-then-not-good_sum-3 c = fails-3 _ _ _ _ (sym c.good_sum.ensures ∙ not-false _ c.if-not-good_sum.false) (sym c.good_sum-2.ensures ∙ not-false _ c.if-not-good_sum-2.false) (sym c.good_sum-3.ensures ∙ not-true _ c.if-not-good_sum-3.true)
+returns-then-not-good_sum-3 c = fails-3 _ _ _ _ (sym c.good_sum.ensures ∙ c.if-not-good_sum.false) (sym c.good_sum-2.ensures ∙ c.if-not-good_sum-2.false) (sym c.good_sum-3.ensures ∙ c.if-not-good_sum-3.true)
 
 pub returns : goal.returns
 unfolding good_sums
-returns c = c.good_sum-4.ensures ∙ last _ _ _ _ (sym c.good_sum.ensures ∙ not-false _ c.if-not-good_sum.false) (sym c.good_sum-2.ensures ∙ not-false _ c.if-not-good_sum-2.false) (sym c.good_sum-3.ensures ∙ not-false _ c.if-not-good_sum-3.false)
+returns c = c.good_sum-4.ensures ∙ last _ _ _ _ (sym c.good_sum.ensures ∙ c.if-not-good_sum.false) (sym c.good_sum-2.ensures ∙ c.if-not-good_sum-2.false) (sym c.good_sum-3.ensures ∙ c.if-not-good_sum-3.false)

@@ -91,7 +91,7 @@ overflow_add-o c =
     )
 
 pub loop-going-smaller : goal.loop-going-smaller
-loop-going-smaller c = fewer_left c.args.trace.now c.loop-going.going c.loop-going.at (length c.loop-going.cells) (length c.loop-going.values) _ _ c.rows-went.ensures.0 (sym c.passes.ensures ∙ not-false _ c.if-not-passes.false) c.if-went-eq0.false
+loop-going-smaller c = fewer_left c.args.trace.now c.loop-going.going c.loop-going.at (length c.loop-going.cells) (length c.loop-going.values) _ _ c.rows-went.ensures.0 (sym c.passes.ensures ∙ c.if-not-passes.false) c.if-went-eq0.false
 
 pub loop-going-preserved : goal.loop-going-preserved
 loop-going-preserved c =

@@ -11,7 +11,7 @@ use Rattle.trace.proofs.whole.replay.Goals as goal
 -- part-replay-trace-end c = search rules
 
 pub replay_refused-requires : goal.replay_refused-requires
-replay_refused-requires c = sym c.passes.ensures ∙ not-true _ c.if-not-passes.true
+replay_refused-requires c = sym c.passes.ensures ∙ c.if-not-passes.true
 
 pub returns-then-not-passes : goal.returns-then-not-passes
 returns-then-not-passes c =

@@ -6,14 +6,14 @@ use borrow.Author.Rules.{rules}
 use Rattle.angle_pid.proofs.pid.Pid.update_ts.Goals as goal
 
 pub returns-then-not-passes : goal.returns-then-not-passes
-returns-then-not-passes c = rw c.refusal-why.ensures (sym (update_bad _ _ _ (sym (c.passes.ensures ∙ ap passes c.refusal-why.ensures) ∙ not-true _ c.if-not-passes.true)))
+returns-then-not-passes c = rw c.refusal-why.ensures (sym (update_bad _ _ _ (sym (c.passes.ensures ∙ ap passes c.refusal-why.ensures) ∙ c.if-not-passes.true)))
 
 pub returns-then-not-passes-2 : goal.returns-then-not-passes-2
 returns-then-not-passes-2 c =
-    let good = sym (c.passes.ensures ∙ ap passes c.refusal-why.ensures) ∙ not-false _ c.if-not-passes.false in
-    sym (update_good _ _ _ good ∙ rw (← c.wrap-wrapped.ensures) (after-refused _ _ _ (sym c.passes-2.ensures ∙ not-true _ c.if-not-passes-2.true)))
+    let good = sym (c.passes.ensures ∙ ap passes c.refusal-why.ensures) ∙ c.if-not-passes.false in
+    sym (update_good _ _ _ good ∙ rw (← c.wrap-wrapped.ensures) (after-refused _ _ _ (sym c.passes-2.ensures ∙ c.if-not-passes-2.true)))
 
 pub returns : goal.returns
 returns c =
-    let good = sym (c.passes.ensures ∙ ap passes c.refusal-why.ensures) ∙ not-false _ c.if-not-passes.false in
-    sym (update_good _ _ _ good ∙ rw (← c.wrap-wrapped.ensures) (after-settled _ _ _ (sym c.passes-2.ensures ∙ not-false _ c.if-not-passes-2.false) ∙ rw (← c.step-next.ensures)))
+    let good = sym (c.passes.ensures ∙ ap passes c.refusal-why.ensures) ∙ c.if-not-passes.false in
+    sym (update_good _ _ _ good ∙ rw (← c.wrap-wrapped.ensures) (after-settled _ _ _ (sym c.passes-2.ensures ∙ c.if-not-passes-2.false) ∙ rw (← c.step-next.ensures)))
