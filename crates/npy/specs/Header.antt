@@ -1,7 +1,6 @@
 -- The header of an array, in the order of document 01: magic and version (11), then the length of the text and the text (12).
 use Rattle.std.specs.Prelude.{ℕ, ◌+◌, ◌-◌, ◌*◌, ◌%◌, List, [], ◌∷◌, Bool, cond, ◌&&◌, length, get_or, take, drop, ltb, leb, eqb}
 use Rattle.refusal.specs.declared.Refusal.{Refusal}
-use Rattle.refusal.specs.declared.Refusal.TheVariants as Refusal
 use Rattle.refusal.specs.Refusal.{passes}
 use Rattle.npy.specs.Text.{begins, decimal, kind_of, kind_end, rows_at, rows_end, cols_at, cols_end, places_of, spelled}
 use Rattle.npy.specs.declared.reader.Kind.{Kind}

@@ -1,6 +1,6 @@
 -- Laws of the header: one turn of its number, what the code answers in each case, the place of the data, and what a refused one says.
 -- Assumes nothing.
-use Rattle.std.specs.Prelude.{◌≡◌, refl, List, [], Bool, true, false, cond, ◌&&◌, ℕ, zero, suc, ◌+◌, ◌*◌, ◌-◌, ◌%◌, ◌≤◌, ◌<◌, ◌^◌, length, get_or, take, drop, leb, eqb}
+use Rattle.std.specs.Prelude.{◌≡◌, refl, List, [], Bool, true, false, cond, ◌&&◌, ℕ, suc, ◌+◌, ◌*◌, ◌-◌, ◌%◌, ◌≤◌, ◌<◌, ◌^◌, length, get_or, take, drop, leb, eqb}
 use Rattle.std.proofs.Common.{sym, ◌∙◌, ap, ⊎_elim, pow-suc, lt_of_lt_of_le, zero-add, arith, drop_of_length-le, length-take, drop-cons, lit<, le-leb, leb-true, eq-eqb, ne_eqb, eqb-true}
 use Rattle.std.proofs.Math.Nat.{pow-le-pow_right, add-sub_cancel_left, min-le_left}
 use Rattle.std.proofs.Math.ListN.{get_or-eq_default}
@@ -8,7 +8,6 @@ use Rattle.std.proofs.Math.Seq.{take-nil}
 use Rattle.std.proofs.lemmas.Bool.{lt-leb}
 use Rattle.lemmas.specs.Lists.{to_end}
 use Rattle.refusal.specs.declared.Refusal.{Refusal}
-use Rattle.refusal.specs.declared.Refusal.TheVariants as Refusal
 use Rattle.refusal.specs.Refusal.{passes}
 use Rattle.lemmas.specs.Cases.{and_left, and_right, lt_or_le}
 use Rattle.npy.specs.declared.reader.Kind.{Kind}

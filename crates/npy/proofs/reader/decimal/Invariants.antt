@@ -1,11 +1,8 @@
-use native.Mathlib.Nat.{sub_self}
 use Prim.Native.Nat.{◌^◌}
 use lib.ListN.{take}
 use Rattle.npy.specs.Text.{decimal}
-use Rattle.npy.specs.TextLaws.{decimal_more, decimal_done, tens_more, tens_fit}
-use mathlib.Core.Path.{◌≡◌, refl, ap, ◌∙◌}
-use Prim.Native.Nat.{ℕ, ◌≤◌, ◌-◌, ◌+◌, ◌*◌}
-use native.Mathlib.Omega.{arith}
+use mathlib.Core.Path.{◌≡◌}
+use Prim.Native.Nat.{◌≤◌, ◌-◌, ◌+◌, ◌*◌}
 use lib.ListN.{drop}
 use Rattle.npy.proofs.reader.decimal.Given as goal
 

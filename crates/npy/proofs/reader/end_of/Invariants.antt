@@ -1,9 +1,6 @@
 use Rattle.npy.specs.Text.{byte_within, end_of}
-use Rattle.npy.specs.TextLaws.{end_past, end_stop, end_more}
-use borrow.Author.Tests.{not-true, not-false}
-use mathlib.Core.Path.{◌≡◌, refl, sym, ◌∙◌}
+use mathlib.Core.Path.{◌≡◌}
 use Prim.Native.Nat.{◌-◌}
-use native.Mathlib.Omega.{arith}
 use lib.ListN.{length}
 use Rattle.npy.proofs.reader.end_of.Given as goal
 

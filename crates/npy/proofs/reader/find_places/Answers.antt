@@ -2,7 +2,6 @@ use Rattle.npy.specs.Text.{is_kind_byte, is_digit, is_space}
 use Rattle.npy.specs.TextLaws.{end_within, places_of_lem}
 use Prim.Native.Nat.{◌+◌}
 use native.Mathlib.Omega.{arith}
-use borrow.Author.Rules.{rules}
 use Rattle.npy.proofs.reader.find_places.Goals as goal
 
 pub overflow_add-rows : goal.overflow_add-rows

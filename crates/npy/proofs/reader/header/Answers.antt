@@ -1,6 +1,5 @@
 use Rattle.npy.specs.HeaderLaws.{no_width, by_width, width_small}
 use mathlib.Core.Path.{◌∙◌}
-use borrow.Author.Rules.{rules}
 use Rattle.npy.proofs.reader.header.Goals as goal
 
 pub returns-then-w-eq0 : goal.returns-then-w-eq0

@@ -1,10 +1,7 @@
 use Rattle.npy.specs.Text.{begins}
-use Rattle.npy.specs.TextLaws.{begins_end, begins-short, begins-differ, begins_more}
-use mathlib.Core.Path.{◌≡◌, refl, ◌∙◌}
+use mathlib.Core.Path.{◌≡◌}
 use Prim.Native.Nat.{◌-◌}
-use native.Mathlib.Omega.{arith}
 use lib.ListN.{length, drop}
-use borrow.Author.Tests.{eq-eqb, ne_eqb}
 use Rattle.npy.proofs.reader.holds.Given as goal
 
 abbrev pub invariant-loop-j : goal.invariant-loop-j

@@ -1,13 +1,6 @@
 use Rattle.npy.specs.Text.{kind_of}
-use borrow.Author.Rules.{rules}
 use borrow.Author.Tests.{eq-eqb, ne_eqb}
 use Rattle.npy.proofs.reader.kind_of.Goals as goal
-
--- LOST slice-aggregate-holds : tie.Need-slice-aggregate-init
--- slice-aggregate-holds c = search rules
-
--- LOST slice-aggregate-holds-2 : tie.Need-slice-aggregate-init-2
--- slice-aggregate-holds-2 c = search rules
 
 pub returns-then-n-ne3 : goal.returns-then-n-ne3
 unfolding kind_of

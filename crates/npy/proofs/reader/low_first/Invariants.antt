@@ -1,11 +1,8 @@
 use Prim.Native.Nat.{◌^◌}
 use lib.ListN.{take}
-use native.Mathlib.Nat.{sub_self}
 use Rattle.npy.specs.Header.{low_first}
-use Rattle.npy.specs.HeaderLaws.{low_more, low_none, low_all, byte_more, low_fits}
-use mathlib.Core.Path.{◌≡◌, ap, ◌∙◌}
-use Prim.Native.Nat.{ℕ, ◌≤◌, ◌<◌, ◌-◌, ◌+◌, ◌*◌}
-use native.Mathlib.Omega.{arith}
+use mathlib.Core.Path.{◌≡◌}
+use Prim.Native.Nat.{◌≤◌, ◌<◌, ◌-◌}
 use lib.ListN.{drop}
 use Rattle.npy.proofs.reader.low_first.Given as goal
 

@@ -1,6 +1,5 @@
 use Rattle.npy.specs.Text.{spelled}
 use mathlib.Core.Path.{◌∙◌}
-use borrow.Author.Rules.{rules}
 use Rattle.npy.proofs.reader.spelled.Goals as goal
 
 pub returns : goal.returns

@@ -1,5 +1,4 @@
 use Rattle.npy.specs.Header.{text_fits}
-use borrow.Author.Rules.{rules}
 use borrow.Author.Tests.{le-leb, lt-leb}
 use Rattle.npy.proofs.reader.text_fits.Goals as goal
 

@@ -1,9 +1,7 @@
-use mathlib.Core.Path.{◌≡◌, refl, ◌∙◌}
+use mathlib.Core.Path.{◌≡◌}
 use Prim.Native.Nat.{◌+◌, ◌*◌, ◌≤◌}
-use native.Mathlib.Omega.{arith}
-use lib.ListN.{length, length-set}
+use lib.ListN.{length}
 use Rattle.npy.specs.LineMaking.{end_lines}
-use Rattle.npy.specs.LineMakingLaws.{ends_more, ends_done, ends-room}
 use Rattle.npy.proofs.writer.end_lines.Given as goal
 
 abbrev pub invariant-loop-left : goal.invariant-loop-left

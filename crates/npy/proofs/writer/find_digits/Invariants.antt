@@ -1,9 +1,8 @@
-use mathlib.Core.Path.{◌≡◌, refl, ◌∙◌}
+use mathlib.Core.Path.{◌≡◌}
 use Prim.Native.Nat.{◌*◌, ◌-◌, ◌≤◌}
-use native.Mathlib.Omega.{arith}
-use lib.ListN.{length, drop, length-set}
+use lib.ListN.{length, drop}
 use lib.Seq.{sets}
-use Rattle.npy.specs.PackedDigits.{packed_digits, packed_more, packed_done}
+use Rattle.npy.specs.PackedDigits.{packed_digits}
 use Rattle.npy.proofs.writer.find_digits.Given as goal
 
 abbrev pub invariant-loop-i : goal.invariant-loop-i

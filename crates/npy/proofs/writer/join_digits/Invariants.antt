@@ -1,10 +1,8 @@
-use mathlib.Core.Path.{◌≡◌, refl, ap, ◌∙◌}
+use mathlib.Core.Path.{◌≡◌}
 use Prim.Native.Nat.{◌+◌, ◌*◌, ◌-◌, ◌≤◌}
-use native.Mathlib.Nat.{add-zero, sub-zero}
-use native.Mathlib.Omega.{arith}
-use lib.ListN.{length, drop, length-set}
-use lib.Seq.{sets, length-sets}
-use Rattle.npy.specs.PackedDigits.{unpacked_words, unpacked_more, unpacked_done}
+use lib.ListN.{length, drop}
+use lib.Seq.{sets}
+use Rattle.npy.specs.PackedDigits.{unpacked_words}
 use Rattle.npy.proofs.writer.join_digits.Given as goal
 
 abbrev pub invariant-loop-i : goal.invariant-loop-i

@@ -1,4 +1,3 @@
-use native.Mathlib.Omega.{arith}
 use Rattle.npy.specs.PutLines.{line_fits}
 use Rattle.npy.specs.PutLinesLaws.{by_product}
 use borrow.Author.Tests.{le-leb, lt-leb}
@@ -7,9 +6,6 @@ use Rattle.npy.proofs.writer.line_fits.Goals as goal
 pub returns-then-len-at : goal.returns-then-len-at
 unfolding line_fits
 returns-then-len-at c = simp (lt-leb _ _ c.if-len-at.true)
-
-pub overflow_mul-result : goal.overflow_mul-result
-overflow_mul-result c = omega arith
 
 pub returns-then-n-lt4294967296 : goal.returns-then-n-lt4294967296
 unfolding line_fits

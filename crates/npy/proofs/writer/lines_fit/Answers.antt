@@ -1,4 +1,3 @@
-use borrow.Author.Rules.{rules}
 use borrow.Author.Tests.{eq-eqb, ne_eqb, lt-ltb}
 use native.Mathlib.Omega.{arith}
 use Rattle.npy.specs.PutLines.{lines_fit}

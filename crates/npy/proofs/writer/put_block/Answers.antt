@@ -1,5 +1,4 @@
 use native.Mathlib.Omega.{arith}
-use borrow.Author.Rules.{rules}
 use Rattle.npy.specs.PackedDigits.{unpacked_words_lem}
 use Rattle.npy.proofs.writer.put_block.Goals as goal
 

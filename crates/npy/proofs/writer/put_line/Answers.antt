@@ -1,4 +1,3 @@
-use borrow.Author.Rules.{rules}
 use Rattle.npy.specs.PutLinesLaws.{line_alone}
 use Rattle.npy.proofs.writer.put_line.Goals as goal
 

@@ -1,12 +1,5 @@
-use native.Mathlib.Omega.{arith}
-use borrow.Author.Rules.{rules}
-use Rattle.npy.specs.LineMakingLaws.{rows_of_one, rows_room, rows_ended}
+use Rattle.npy.specs.LineMakingLaws.{rows_of_one, rows_ended}
 use Rattle.npy.proofs.writer.put_rows.Goals as goal
-
-pub end_lines-requires : goal.end_lines-requires
-end_lines-requires c =
-    let pre = c.requires in
-    (pre.0, omega (arith, rows_room _ _ _ _ pre.1 pre.2))
 
 pub returns-then-k-eq1 : goal.returns-then-k-eq1
 returns-then-k-eq1 c = rows_of_one _ _ _ _ _ c.if-k-eq1.true c.put_words.ensures

@@ -1,12 +1,8 @@
-use mathlib.Core.Path.{◌≡◌, refl, ap, ◌∙◌}
+use mathlib.Core.Path.{◌≡◌}
 use Prim.Native.Nat.{◌+◌, ◌*◌, ◌-◌, ◌≤◌}
-use native.Mathlib.Nat.{add-zero}
-use native.Mathlib.Omega.{arith}
-use lib.ListN.{length, drop, length-take, length-drop}
-use lib.Seq.{sets, length-sets}
-use borrow.Author.Rules.{rules}
+use lib.ListN.{length, drop}
+use lib.Seq.{sets}
 use Rattle.npy.specs.LineMaking.{words_of}
-use Rattle.npy.specs.LineMakingLaws.{words_more, words_done}
 use Rattle.npy.proofs.writer.put_words.Given as goal
 
 abbrev pub invariant-loop-i : goal.invariant-loop-i
