@@ -1,6 +1,6 @@
 -- Lane after lane: things for the lanes in turn, and things read one after the other. Assumes nothing.
 use Rattle.std.specs.Prelude.{◌≡◌, refl, List, [], ◌∷◌, ℕ, zero, suc, ◌+◌, ◌-◌, ◌*◌, ◌≤◌, ◌<◌, length, get_or, take, drop}
-use Rattle.std.proofs.Common.{ap, ◌∙◌, suc-mul, zero-mul, add-zero, zero-add, add_comm, arith, drop-drop, eq-eqb, ne_eqb}
+use Rattle.std.proofs.Common.{sym, ap, ◌∙◌, subst, suc-mul, zero-mul, add-zero, zero-add, add_comm, arith, drop-drop, eq-eqb, ne_eqb}
 use Rattle.lemmas.specs.Lists.{drop-take}
 use Rattle.lanes.specs.Lanes.{For, for, of_lane}
 
@@ -20,11 +20,11 @@ turn-past L lane (x ∷ xs) h =
 pub turn_at : {A : Type 0} (i lane : ℕ) (xs : List A) (d : A) → i < length xs → of_lane (lane + i) (in_turn lane xs) ≡ get_or xs i d ∷ []
 unfolding in_turn of_lane
 turn_at i lane [] d h = absurd (omega arith)
-turn_at zero lane (x ∷ xs) d h = rw (add-zero lane, eq-eqb lane lane refl, turn-past lane (suc lane) xs (omega arith))
+turn_at zero lane (x ∷ xs) d h = rw (eq-eqb (lane + 0) lane (add-zero lane), turn-past (lane + 0) (suc lane) xs (omega arith))
 turn_at (suc i) lane (x ∷ xs) d h =
     let other : lane + suc i ≡ lane → ⊥ = λ e. omega arith in
     let e : lane + suc i ≡ suc lane + i = omega arith in
-    rw (ne_eqb (lane + suc i) lane other, e) (turn_at i (suc lane) xs d (omega arith))
+    rw (ne_eqb (lane + suc i) lane other) (subst (λ (j : ℕ). of_lane j (in_turn (suc lane) xs) ≡ get_or xs i d ∷ []) (sym e) (turn_at i (suc lane) xs d (omega arith)))
 
 pub lane_of : {A : Type 0} (L : ℕ) (xs : List A) (d : A) → L < length xs → of_lane L (in_turn 0 xs) ≡ get_or xs L d ∷ []
 lane_of L xs d h = rw zero-add at (turn_at L 0 xs d h)

@@ -3,8 +3,5 @@ use mathlib.Core.Path.{sym}
 use borrow.Author.Rules.{rules}
 use Rattle.calls.proofs.write.Goals as goal
 
--- LOST slice-aggregate-say : tie.Need-slice-aggregate-say
--- slice-aggregate-say c = search rules
-
 pub slice_bounds-write_all-end : goal.slice_bounds-write_all-end
 slice_bounds-write_all-end c = sym (length-take-le _ _ c.if-out-wait.false)

@@ -3,8 +3,5 @@ use mathlib.Core.Path.{sym}
 use borrow.Author.Rules.{rules}
 use Rattle.replay_cases.proofs.write.Goals as goal
 
--- LOST slice-aggregate-write-all-2 : tie.Need-slice-aggregate-write-all-2
--- slice-aggregate-write-all-2 c = search rules
-
 pub slice_bounds-write_all-end : goal.slice_bounds-write_all-end
 slice_bounds-write_all-end c = sym (length-take-le _ _ c.if-out-n.false)

@@ -4,12 +4,6 @@ use native.Mathlib.Omega.{arith}
 use borrow.Author.Rules.{rules}
 use Rattle.calls.proofs.line.answer_line.Goals as goal
 
--- LOST part-operands-start : tie.Need-slice-bounds-operands-start
--- part-operands-start c = search rules
-
--- LOST part-operands-end : tie.Need-slice-bounds-operands-end
--- part-operands-end c = search rules
-
 pub slice_bounds-answer_call-end : goal.slice_bounds-answer_call-end
 slice_bounds-answer_call-end c = sym (length-take-le _ _ (omega arith))
 

@@ -5,12 +5,6 @@ use lib.ListN.{length}
 use borrow.Author.Rules.{rules}
 use Rattle.calls.proofs.line.operands.Goals as goal
 
--- LOST part-word-of-start : tie.Need-slice-bounds-word-of-start invariant-loop decreases-loop
--- part-word-of-start c = omega arith
-
--- LOST part-word-of-end : tie.Need-slice-bounds-word-of-end invariant-loop decreases-loop
--- part-word-of-end c = omega arith
-
 pub loop-i-init : goal.loop-i-init
 loop-i-init c = omega arith
 

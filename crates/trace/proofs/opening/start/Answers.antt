@@ -5,12 +5,6 @@ use borrow.Author.Rules.{rules}
 use borrow.Author.Tests.{not-true, not-false}
 use Rattle.trace.proofs.opening.start.Goals as goal
 
--- LOST part-opened-start : tie.Need-slice-bounds-opened-start
--- part-opened-start c = omega (arith, settings_from_lem c.before.before.before.before.before.args.bytes.now _ _ _ c.before.before.settings-refusal.ensures c.before.passes.ensures (not-false _ c.if1.false))
-
--- LOST part-opened-end : tie.Need-slice-bounds-opened-end
--- part-opened-end c = search rules
-
 pub header-head-requires : goal.header-head-requires
 header-head-requires c = tt
 
@@ -45,3 +39,6 @@ trace_start-requires c =
 
 pub returns : goal.returns
 returns c = start_given _ _ _ _ _ _ c.header-head.ensures c.settings_refusal-why.ensures c.passes.ensures c.if-not-passes.false c.opened-bank.ensures c.trace_start.ensures
+
+pub slice_bounds-opened-start : goal.slice_bounds-opened-start
+slice_bounds-opened-start c = omega (arith, settings_from_lem c.args.bytes.now _ _ _ c.settings_refusal-why.ensures c.passes.ensures c.if-not-passes.false)

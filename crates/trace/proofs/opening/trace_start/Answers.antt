@@ -4,12 +4,6 @@ use borrow.Author.Rules.{rules}
 use borrow.Author.Tests.{not-true, not-false}
 use Rattle.trace.proofs.opening.trace_start.Goals as goal
 
--- LOST part-header-start : tie.Need-slice-bounds-header-start
--- part-header-start c = search rules
-
--- LOST part-header-end : tie.Need-slice-bounds-header-end
--- part-header-end c = search rules
-
 pub returns-then-not-passes : goal.returns-then-not-passes
 returns-then-not-passes c = trace_refused _ _ _ _ _ _ _ _ c.header-head.ensures c.trace_refusal-why.ensures c.passes.ensures c.if-not-passes.true c.refused_start.ensures
 

@@ -5,12 +5,6 @@ use native.Mathlib.Omega.{arith}
 use borrow.Author.Rules.{rules}
 use Rattle.trace.proofs.refusal_line.refused_line.Goals as goal
 
--- LOST slice-aggregate-put : tie.Need-slice-aggregate-put
--- slice-aggregate-put c = search rules
-
--- LOST slice-aggregate-put-2 : tie.Need-slice-aggregate-put-2
--- slice-aggregate-put-2 c = search rules
-
 pub returns-then-out-lt10 : goal.returns-then-out-lt10
 returns-then-out-lt10 c = one_digit_short _ _ c.number-n.ensures c.args.out.now c.if-n-lt10.true c.if-out-lt10.true
 

@@ -11,22 +11,6 @@ use borrow.Author.Rules.{rules}
 use borrow.Author.Tests.{not-true, not-false}
 use Rattle.trace.proofs.whole.print.Goals as goal
 
--- LOST part-rows-start : tie.Need-slice-bounds-rows-start invariant-loop decreases-loop
--- part-rows-start c =
---     let at = c.before.before in
---     at.loop.invariant.0.there
-
--- LOST part-rows-end : tie.Need-slice-bounds-rows-end invariant-loop decreases-loop
--- part-rows-end c = search rules
-
--- LOST part-rows-start-2 : tie.Need-slice-bounds-rows-start-2 invariant-loop decreases-loop
--- part-rows-start-2 c =
---     let at = c.before.before.before.before.before in
---     omega (arith, at.loop.invariant.0.fits, at.loop.invariant.0.long)
-
--- LOST part-rows-end-2 : tie.Need-slice-bounds-rows-end-2 invariant-loop decreases-loop
--- part-rows-end-2 c = search rules
-
 pub loop-going-init : goal.loop-going-init
 loop-going-init c = (print_start _ _ _ c.requires.fits, refl, refl)
 

@@ -4,12 +4,6 @@ use borrow.Author.Rules.{rules}
 use borrow.Author.Tests.{not-true, not-false}
 use Rattle.trace.proofs.whole.replay.Goals as goal
 
--- LOST part-replay-trace-start : tie.Need-slice-bounds-replay-trace-start
--- part-replay-trace-start c = (start_bounds_from c.before.before.before.before.before.before.args.bytes.now _ _ c.before.before.before.start.ensures c.before.before.passes.ensures (not-false _ c.before.if1.false)).there
-
--- LOST part-replay-trace-end : tie.Need-slice-bounds-replay-trace-end
--- part-replay-trace-end c = search rules
-
 pub replay_refused-requires : goal.replay_refused-requires
 replay_refused-requires c = sym c.passes.ensures ∙ c.if-not-passes.true
 
@@ -30,3 +24,6 @@ pub returns : goal.returns
 returns c =
     let is = replay_of_trace c.args.bytes.now _ _ c.start-begun.ensures c.passes.ensures c.if-not-passes.false in
     rw (is.0, is.1) c.replay_trace.ensures
+
+pub slice_bounds-replay_trace-start : goal.slice_bounds-replay_trace-start
+slice_bounds-replay_trace-start c = (start_bounds_from c.args.bytes.now _ _ c.start-begun.ensures c.passes.ensures c.if-not-passes.false).there

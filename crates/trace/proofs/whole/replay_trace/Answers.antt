@@ -6,12 +6,6 @@ use lib.ListN.{length}
 use borrow.Author.Rules.{rules}
 use Rattle.trace.proofs.whole.replay_trace.Goals as goal
 
--- LOST part-reason-line-start : tie.Need-slice-bounds-reason-line-start
--- part-reason-line-start c = search rules
-
--- LOST part-reason-line-end : tie.Need-slice-bounds-reason-line-end
--- part-reason-line-end c = search rules
-
 pub overflow_mul-lines-2 : goal.overflow_mul-lines-2
 overflow_mul-lines-2 c = omega (arith, measured_lines_small c.args.course c.args.trace.now _ c.measured-is.ensures c.requires.0 c.requires.1)
 
