@@ -3,12 +3,9 @@ use Rattle.std.specs.Prelude.{cond, Float}
 use Rattle.std.specs.Float.Ieee.{lt}
 use Rattle.float.specs.F32 as F
 use Rattle.refusal.specs.declared.Refusal.{Refusal}
-use Rattle.refusal.specs.declared.Refusal.TheVariants as Refusal
 use Rattle.filters.specs.Lowpass.{new_lowpass, step_lowpass}
 use Rattle.angle_pid.specs.declared.lp_filter.Tau.{Tau}
-use Rattle.angle_pid.specs.declared.lp_filter.Tau.TheVariants as Tau
 use Rattle.angle_pid.specs.declared.lp_filter.LpFilter.{LpFilter}
-use Rattle.angle_pid.specs.declared.lp_filter.LpFilter.TheVariants as LpFilter
 use Rattle.angle_pid.specs.declared.lp_filter.LpFiltered.{LpFiltered}
 
 -- 2 where a low pass is asked for and tau > 0 does not hold

@@ -5,14 +5,10 @@ use Rattle.float.specs.F32 as F
 use Rattle.float.specs.F32.{◌+f◌, ◌-f◌, ◌*f◌, ◌/f◌}
 use Rattle.refusal.specs.Refusal.{passes, first_refusal}
 use Rattle.refusal.specs.declared.Refusal.{Refusal}
-use Rattle.refusal.specs.declared.Refusal.TheVariants as Refusal
 use Rattle.func.specs.declared.Wrapped.{Wrapped}
 use Rattle.angle_pid.specs.declared.range.Range.{Range}
-use Rattle.angle_pid.specs.declared.range.Range.TheVariants as Range
 use Rattle.angle_pid.specs.declared.lp_filter.Tau.{Tau}
-use Rattle.angle_pid.specs.declared.lp_filter.Tau.TheVariants as Tau
 use Rattle.angle_pid.specs.declared.lp_filter.LpFilter.{LpFilter}
-use Rattle.angle_pid.specs.declared.lp_filter.LpFilter.TheVariants as LpFilter
 use Rattle.angle_pid.specs.declared.lp_filter.LpFiltered.{LpFiltered}
 use Rattle.angle_pid.specs.declared.pid.Pid.{Pid}
 use Rattle.angle_pid.specs.declared.pid.PidConfig.{PidConfig}

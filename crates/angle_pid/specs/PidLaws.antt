@@ -11,16 +11,12 @@ use Rattle.float.specs.FloatLaws.{clamp_nan}
 use Rattle.refusal.specs.RefusalLaws.{refused_not_none}
 use Rattle.refusal.specs.Refusal.{passes}
 use Rattle.refusal.specs.declared.Refusal.{Refusal}
-use Rattle.refusal.specs.declared.Refusal.TheVariants as Refusal
 use Rattle.func.specs.declared.Wrapped.{Wrapped}
 use Rattle.func.specs.WrapLaws.{RisesBy, wrap_by_within, wrap_by_beyond}
 use Rattle.filters.specs.Lowpass.{lowpass_of, new_lowpass, step_lowpass}
 use Rattle.angle_pid.specs.declared.range.Range.{Range}
-use Rattle.angle_pid.specs.declared.range.Range.TheVariants as Range
 use Rattle.angle_pid.specs.declared.lp_filter.Tau.{Tau}
-use Rattle.angle_pid.specs.declared.lp_filter.Tau.TheVariants as Tau
 use Rattle.angle_pid.specs.declared.lp_filter.LpFilter.{LpFilter}
-use Rattle.angle_pid.specs.declared.lp_filter.LpFilter.TheVariants as LpFilter
 use Rattle.angle_pid.specs.declared.pid.Pid.{Pid}
 use Rattle.angle_pid.specs.declared.pid.PidConfig.{PidConfig}
 use Rattle.angle_pid.specs.declared.pid.PidChanged.{PidChanged}

@@ -4,7 +4,6 @@ use Rattle.std.specs.Float.Ieee.{lt}
 use Rattle.float.specs.F32.{◌+f◌, ◌-f◌}
 use Rattle.float.specs.Float.{clamp_f}
 use Rattle.refusal.specs.declared.Refusal.{Refusal}
-use Rattle.refusal.specs.declared.Refusal.TheVariants as Refusal
 use Rattle.func.specs.declared.Wrapped.{Wrapped}
 use Rattle.func.specs.Func.{settled, call_wrap_by}
 use Rattle.angle_pid.specs.declared.range.Range.{Range}

@@ -3,7 +3,6 @@
 use Rattle.std.specs.Prelude.{true, false, cond, Float}
 use Rattle.float.specs.F32 as F
 use Rattle.refusal.specs.declared.Refusal.{Refusal}
-use Rattle.refusal.specs.declared.Refusal.TheVariants as Refusal
 use Rattle.filters.specs.SlewRate.{bad_limit}
 use Rattle.rate_pid.specs.declared.PidTerms.{PidTerms}
 use Rattle.rate_pid.specs.declared.RatePid.{RatePid}

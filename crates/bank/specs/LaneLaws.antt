@@ -6,7 +6,6 @@ use Rattle.std.proofs.Common.{sym, ap}
 use Rattle.std.proofs.Math.Bool.{true, false}
 use Rattle.lemmas.specs.Cases.{read_picked}
 use Rattle.refusal.specs.declared.Refusal.{Refusal}
-use Rattle.refusal.specs.declared.Refusal.TheVariants as Refusal
 use Rattle.filters.specs.SlewRate.{bad_limit}
 use Rattle.rate_pid.specs.declared.RatePid.{RatePid}
 use Rattle.rate_pid.specs.declared.Changed.{Changed}

@@ -6,7 +6,6 @@ use Rattle.std.specs.Float.Ieee.{of_int}
 use Rattle.float.specs.F32 as F
 use Rattle.float.specs.F32.{◌+f◌, ◌/f◌}
 use Rattle.refusal.specs.declared.Refusal.{Refusal}
-use Rattle.refusal.specs.declared.Refusal.TheVariants as Refusal
 use Rattle.filters.specs.declared.moving_average.MovingAverage.{MovingAverage}
 use Rattle.filters.specs.declared.moving_average.MovingAverageMade.{MovingAverageMade}
 use Rattle.filters.specs.declared.moving_average.MovingAveraged.{MovingAveraged}

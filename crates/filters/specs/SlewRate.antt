@@ -5,7 +5,6 @@ use Rattle.float.specs.F32 as F
 use Rattle.float.specs.F32.{◌+f◌, ◌-f◌, ◌*f◌}
 use Rattle.float.specs.Float.{negative, max_f, min_f}
 use Rattle.refusal.specs.declared.Refusal.{Refusal}
-use Rattle.refusal.specs.declared.Refusal.TheVariants as Refusal
 use Rattle.filters.specs.declared.slew_rate.SlewRate.{SlewRate}
 use Rattle.filters.specs.declared.slew_rate.SlewRateChanged.{SlewRateChanged}
 use Rattle.filters.specs.declared.slew_rate.SlewRated.{SlewRated}

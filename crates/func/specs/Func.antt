@@ -4,7 +4,6 @@ use Rattle.std.specs.Float.Ieee.{lt, le}
 use Rattle.float.specs.F32 as F
 use Rattle.float.specs.F32.{◌+f◌, ◌-f◌, ◌*f◌, ◌/f◌}
 use Rattle.refusal.specs.declared.Refusal.{Refusal}
-use Rattle.refusal.specs.declared.Refusal.TheVariants as Refusal
 use Rattle.func.specs.declared.Wrapped.{Wrapped}
 
 -- ((num − in_min) / in_delta) · out_delta + out_min

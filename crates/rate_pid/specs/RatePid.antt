@@ -6,7 +6,6 @@ use Rattle.float.specs.F32 as F
 use Rattle.float.specs.F32.{◌+f◌, ◌-f◌, ◌*f◌, ◌/f◌}
 use Rattle.float.specs.Float.{abs_f, clamp_f}
 use Rattle.refusal.specs.declared.Refusal.{Refusal}
-use Rattle.refusal.specs.declared.Refusal.TheVariants as Refusal
 use Rattle.filters.specs.declared.lowpass.Lowpass.{Lowpass}
 use Rattle.filters.specs.declared.lowpass.Lowpassed.{Lowpassed}
 use Rattle.filters.specs.Lowpass.{new_lowpass, step_lowpass}
@@ -20,7 +19,6 @@ use Rattle.rate_pid.specs.declared.Changed.{Changed}
 use Rattle.rate_pid.specs.declared.Updated.{Updated}
 use Rattle.rate_pid.specs.declared.Terms.{Terms}
 use Rattle.rate_pid.specs.declared.slew.Slew.{Slew}
-use Rattle.rate_pid.specs.declared.slew.Slew.TheVariants as Slew
 use Rattle.rate_pid.specs.Slew.{is_off, bad_slew, set_dt_slew, step_slew}
 
 abbrev pub ten : Float

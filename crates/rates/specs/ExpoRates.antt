@@ -6,7 +6,6 @@ use Rattle.float.specs.F32 as F
 use Rattle.float.specs.F32.{◌+f◌, ◌-f◌, ◌*f◌, ◌/f◌}
 use Rattle.float.specs.Float.{abs_f, cube_f, fifth_f, max_f, min_f}
 use Rattle.rates.specs.declared.expo_rates.RatesType.{RatesType}
-use Rattle.rates.specs.declared.expo_rates.RatesType.TheVariants as RatesType
 use Rattle.rates.specs.declared.expo_rates.ExpoRates.{ExpoRates}
 
 unfoldable pub new_expo : RatesType → Float → Float → Float → ExpoRates

@@ -7,7 +7,6 @@ use Rattle.float.specs.F32.{◌+f◌, ◌-f◌, ◌*f◌}
 use Rattle.float.specs.Float.{abs_f, fifth_f}
 use Rattle.rates.specs.Line.{slope_of, offset_of}
 use Rattle.rates.specs.declared.rates.Rates.{Rates}
-use Rattle.rates.specs.declared.rates.Rates.TheVariants as Rates
 use Rattle.rates.specs.declared.rates.Actual.{Actual}
 use Rattle.rates.specs.declared.rates.Linear.{Linear}
 

@@ -1,9 +1,8 @@
 -- A file is accepted exactly where nothing of it is refused; it then prints the lines of its rows and nothing else. Assumes nothing.
 use Rattle.std.specs.Prelude.{◌≡◌, refl, List, [], ◌∷◌, true, Bool, false, ℕ, ◌*◌, ◌≤◌, ◌<◌, drop}
-use Rattle.std.proofs.Common.{◌∙◌, sym, ap, subst, append-nil, inl, ⊎_elim, arith}
+use Rattle.std.proofs.Common.{◌∙◌, sym, subst, append-nil, inl, ⊎_elim, arith}
 use Rattle.refusal.specs.RefusalLaws.{refused_not_none}
 use Rattle.refusal.specs.declared.Refusal.{Refusal}
-use Rattle.refusal.specs.declared.Refusal.TheVariants as Refusal
 use Rattle.refusal.specs.Refusal.{passes}
 use Rattle.trace.specs.Trace.{call_start, replay_of, replay_refusal, row_width, row_lines, after_rows, rest_refusal, reason_text, row_refusal, course_refusal}
 use Rattle.trace.specs.Taken.{CanTake, MostRows, rows_cut, spent_rest, after-left, take_left, most_rows_lem, spent_row}

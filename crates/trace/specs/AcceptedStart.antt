@@ -3,7 +3,6 @@ use Rattle.std.specs.Prelude.{◌≡◌, refl, List, Bool, true, false, cond, �
 use Rattle.std.proofs.Common.{sym, subst, ◌∙◌, true≢false, mul-pos, arith, length-drop, ltb-true, leb-true, eqb-true}
 use Rattle.lemmas.specs.Cases.{and_left, and_right}
 use Rattle.refusal.specs.declared.Refusal.{Refusal}
-use Rattle.refusal.specs.declared.Refusal.TheVariants as Refusal
 use Rattle.refusal.specs.Refusal.{passes}
 use Rattle.npy.specs.declared.reader.Head.{Head}
 use Rattle.npy.specs.Header.{has_cells, cell_width, is_accepted, call_header}

@@ -5,7 +5,6 @@ use Rattle.std.proofs.Common.{ap, append-nil, ⊎_elim, arith, length-take, leb-
 use Rattle.std.proofs.Math.Seq.{take-append_seam}
 use Rattle.lemmas.specs.Lists.{drop-take}
 use Rattle.refusal.specs.declared.Refusal.{Refusal}
-use Rattle.refusal.specs.declared.Refusal.TheVariants as Refusal
 use Rattle.refusal.specs.Refusal.{passes}
 use Rattle.npy.specs.declared.reader.Kind.TheVariants.{F4}
 use Rattle.npy.specs.declared.reader.Head.{Head}

@@ -5,7 +5,6 @@ use Rattle.std.proofs.Math.Seq.{take-append_seam}
 use Rattle.std.proofs.lemmas.List.{drop-append-le}
 use Rattle.lemmas.specs.Cases.{lt_or_le}
 use Rattle.refusal.specs.declared.Refusal.{Refusal}
-use Rattle.refusal.specs.declared.Refusal.TheVariants as Refusal
 use Rattle.refusal.specs.Refusal.{passes}
 use Rattle.npy.specs.CellLaws.{cells_take}
 use Rattle.trace.specs.declared.course.Course.{Course}

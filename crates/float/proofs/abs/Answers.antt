@@ -1,5 +1,4 @@
 use mathlib.Core.Path.{◌∙◌}
-use borrow.Author.Rules.{rules}
 use Rattle.float.proofs.Ties.{abs_zero, abs_turns}
 use Rattle.float.proofs.abs.Goals as goal
 

@@ -1,6 +1,5 @@
 use Rattle.float.specs.FloatLaws.{no_nan_pattern}
 use Rattle.float.proofs.Ties.{nan_pattern}
-use borrow.Author.Rules.{rules}
 use Rattle.float.proofs.from_bits.Goals as goal
 
 pub returns-then-n-gt2139095040 : goal.returns-then-n-gt2139095040

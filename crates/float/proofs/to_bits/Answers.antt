@@ -1,5 +1,4 @@
 use Rattle.float.proofs.Ties.{nan_bits, number_bits}
-use borrow.Author.Rules.{rules}
 use Rattle.float.proofs.to_bits.Goals as goal
 
 pub returns-then-x : goal.returns-then-x

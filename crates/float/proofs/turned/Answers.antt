@@ -1,4 +1,3 @@
-
 use Rattle.float.proofs.turned.Goals as goal
 
 pub returns-then-x : goal.returns-then-x

@@ -1,4 +1,3 @@
-
 use Rattle.func.proofs.above.Goals as goal
 
 pub returns-then-closed : goal.returns-then-closed

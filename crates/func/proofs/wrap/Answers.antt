@@ -1,4 +1,3 @@
-use borrow.Author.Rules.{rules}
 use Rattle.func.specs.Func.{call_wrap}
 use Rattle.func.proofs.wrap.Goals as goal
 

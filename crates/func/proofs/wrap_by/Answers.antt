@@ -1,10 +1,8 @@
-use Rattle.func.specs.Func.{above, fall, rise, call_wrap_by}
+use Rattle.func.specs.Func.{above}
 use Rattle.func.specs.WrapLaws.{wrap_starts, wrap_by_refused, fall_end, rise_end}
 use Rattle.func.proofs.Turns.{fall-turn, fall-full, rise-turn, rise-full}
-use mathlib.Core.Path.{◌≡◌, sym, ◌∙◌}
-use Prim.Native.Nat.{◌≤◌, ◌-◌}
+use mathlib.Core.Path.{sym, ◌∙◌}
 use native.Mathlib.Omega.{arith}
-use borrow.Author.Rules.{rules}
 use Rattle.func.proofs.wrap_by.Goals as goal
 
 pub loop-n-init : goal.loop-n-init

@@ -1,10 +1,6 @@
 use Rattle.func.specs.Func.{above, fall, rise, call_wrap_by}
-use Rattle.func.specs.WrapLaws.{wrap_starts, wrap_by_refused, fall_end, rise_end}
-use Rattle.func.proofs.Turns.{fall-turn, fall-full, rise-turn, rise-full}
-use mathlib.Core.Path.{◌≡◌, sym, ◌∙◌}
+use mathlib.Core.Path.{◌≡◌}
 use Prim.Native.Nat.{◌≤◌, ◌-◌}
-use native.Mathlib.Omega.{arith}
-use borrow.Author.Rules.{rules}
 use Rattle.func.proofs.wrap_by.Given as goal
 
 abbrev pub invariant-loop-n : goal.invariant-loop-n

@@ -1,6 +1,5 @@
 use Rattle.linear_lut.specs.LinearLutLaws.{at_first, at_last, between}
 use mathlib.Core.Path.{◌∙◌}
-use borrow.Author.Rules.{rules}
 use Rattle.linear_lut.proofs.among.Goals as goal
 
 pub returns-then-x-points : goal.returns-then-x-points

@@ -1,5 +1,4 @@
 use Rattle.linear_lut.specs.LinearLutLaws.{odd_refused, one-refused, none_zero, some_among}
-use borrow.Author.Rules.{rules}
 use Rattle.linear_lut.proofs.get.Goals as goal
 
 pub returns-then-n-eq1 : goal.returns-then-n-eq1

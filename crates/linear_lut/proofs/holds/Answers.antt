@@ -1,5 +1,4 @@
 use Rattle.linear_lut.specs.LinearLutLaws.{holds_where, holds_not}
-use borrow.Author.Rules.{rules}
 use Rattle.linear_lut.proofs.holds.Goals as goal
 
 pub returns-then-points-i : goal.returns-then-points-i

@@ -1,5 +1,4 @@
 use Rattle.linear_lut.specs.LinearLutLaws.{next_x, next_y}
-use borrow.Author.Rules.{rules}
 use Rattle.linear_lut.specs.LinearLut.{segment}
 use Rattle.linear_lut.proofs.segment.Goals as goal
 

@@ -1,7 +1,7 @@
 use Rattle.linear_lut.specs.LinearLut.{within}
 use Rattle.linear_lut.specs.LinearLutLaws.{found, passed, none_left}
-use mathlib.Core.Path.{◌≡◌, sym, ap, ◌∙◌}
-use Prim.Native.Nat.{ℕ, ◌≤◌, ◌-◌}
+use mathlib.Core.Path.{sym, ap, ◌∙◌}
+use Prim.Native.Nat.{ℕ}
 use native.Mathlib.Omega.{arith}
 use Rattle.linear_lut.proofs.within.Goals as goal
 

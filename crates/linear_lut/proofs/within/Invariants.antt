@@ -1,8 +1,6 @@
 use Rattle.linear_lut.specs.LinearLut.{within}
-use Rattle.linear_lut.specs.LinearLutLaws.{found, passed, none_left}
-use mathlib.Core.Path.{◌≡◌, sym, ap, ◌∙◌}
-use Prim.Native.Nat.{ℕ, ◌≤◌, ◌-◌}
-use native.Mathlib.Omega.{arith}
+use mathlib.Core.Path.{◌≡◌}
+use Prim.Native.Nat.{◌≤◌, ◌-◌}
 use Rattle.linear_lut.proofs.within.Given as goal
 
 abbrev pub invariant-loop-i : goal.invariant-loop-i

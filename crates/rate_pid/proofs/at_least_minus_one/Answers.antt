@@ -1,4 +1,3 @@
-
 use Rattle.rate_pid.proofs.at_least_minus_one.Goals as goal
 
 pub returns-then-x : goal.returns-then-x

@@ -1,4 +1,3 @@
-use borrow.Author.Rules.{rules}
 use Rattle.rate_pid.proofs.Steps.{calm_all}
 use Rattle.rate_pid.proofs.calm.Goals as goal
 

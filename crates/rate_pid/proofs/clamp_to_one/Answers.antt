@@ -1,4 +1,3 @@
-use borrow.Author.Rules.{rules}
 use Rattle.rate_pid.proofs.Steps.{clamp_above, clamp_within}
 use Rattle.rate_pid.proofs.clamp_to_one.Goals as goal
 

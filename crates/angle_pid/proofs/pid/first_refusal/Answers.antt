@@ -1,6 +1,5 @@
 use Rattle.lemmas.specs.Cases.{when_true, when_false}
 use mathlib.Core.Path.{sym, ◌∙◌}
-use borrow.Author.Rules.{rules}
 use Rattle.angle_pid.proofs.pid.first_refusal.Goals as goal
 
 pub returns-then-passes : goal.returns-then-passes

@@ -1,5 +1,4 @@
 use mathlib.Core.Path.{sym, ◌∙◌}
-use borrow.Author.Rules.{rules}
 use Rattle.angle_pid.specs.Pid.{grown}
 use Rattle.angle_pid.proofs.pid.grown.Goals as goal
 

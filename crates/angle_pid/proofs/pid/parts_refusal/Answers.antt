@@ -1,4 +1,3 @@
-use borrow.Author.Rules.{rules}
 use Rattle.angle_pid.specs.Pid.{parts_refusal}
 use Rattle.angle_pid.proofs.pid.parts_refusal.Goals as goal
 

@@ -1,5 +1,4 @@
 use Rattle.bank.specs.Bank.{fresh_bank}
-use borrow.Author.Rules.{rules}
 use Rattle.bank.proofs.Bank.fresh.Goals as goal
 
 pub returns : goal.returns

@@ -1,4 +1,3 @@
-use borrow.Author.Rules.{rules}
 use Rattle.filters.specs.Lowpass.{lowpass_of}
 use Rattle.filters.proofs.lowpass.with.Goals as goal
 

@@ -1,9 +1,5 @@
-use mathlib.Core.List.{◌++◌}
 use mathlib.Core.Path.{◌≡◌, refl}
-use Prim.Native.Nat.{◌≤◌, ◌-◌}
 use native.Mathlib.Omega.{arith}
-use lib.ListN.{replicate}
-use Rattle.float.specs.F32 as F
 use Rattle.filters.specs.MovingAverage.{new_with_value_moving_average}
 use Rattle.filters.proofs.Turns.{fill_turn}
 use Rattle.filters.proofs.moving_average.filled.Goals as goal

@@ -1,11 +1,8 @@
 use mathlib.Core.List.{◌++◌}
-use mathlib.Core.Path.{◌≡◌, refl}
+use mathlib.Core.Path.{◌≡◌}
 use Prim.Native.Nat.{◌≤◌, ◌-◌}
-use native.Mathlib.Omega.{arith}
 use lib.ListN.{replicate}
 use Rattle.float.specs.F32 as F
-use Rattle.filters.specs.MovingAverage.{new_with_value_moving_average}
-use Rattle.filters.proofs.Turns.{fill_turn}
 use Rattle.filters.proofs.moving_average.filled.Given as goal
 
 abbrev pub invariant-loop-i : goal.invariant-loop-i

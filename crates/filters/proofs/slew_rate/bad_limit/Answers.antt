@@ -1,5 +1,4 @@
 use mathlib.Core.Path.{sym, ◌∙◌}
-use borrow.Author.Rules.{rules}
 use Rattle.filters.specs.SlewRate.{bad_limit}
 use Rattle.filters.proofs.slew_rate.bad_limit.Goals as goal
 

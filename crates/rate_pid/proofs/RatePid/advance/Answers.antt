@@ -1,4 +1,3 @@
-use borrow.Author.Rules.{rules}
 use Rattle.rate_pid.proofs.Steps.{passes, taken_off}
 use Rattle.rate_pid.proofs.RatePid.advance.Goals as goal
 

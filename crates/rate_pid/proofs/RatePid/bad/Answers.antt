@@ -1,4 +1,3 @@
-use borrow.Author.Rules.{rules}
 use Rattle.rate_pid.specs.RatePid.{bad_rate_pid}
 use Rattle.rate_pid.proofs.RatePid.bad.Goals as goal
 

@@ -1,4 +1,3 @@
-use borrow.Author.Rules.{rules}
 use Rattle.rate_pid.specs.RatePid.{enable_integral_rate_pid, call_enable_integral_rate_pid}
 use Rattle.rate_pid.proofs.RatePid.enable_integral.Goals as goal
 

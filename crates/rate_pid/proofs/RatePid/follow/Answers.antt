@@ -1,4 +1,3 @@
-use borrow.Author.Rules.{rules}
 use Rattle.rate_pid.proofs.Steps.{followed}
 use Rattle.rate_pid.proofs.RatePid.follow.Goals as goal
 

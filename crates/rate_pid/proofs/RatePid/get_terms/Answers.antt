@@ -1,5 +1,4 @@
 use mathlib.Core.Path.{sym, ap, ◌∙◌}
-use borrow.Author.Rules.{rules}
 use Rattle.refusal.specs.declared.Refusal.TheVariants as Refusal
 use Rattle.rate_pid.specs.RatePid.{terms_rate_pid}
 use Rattle.rate_pid.specs.RatePidLaws.{get_terms_refused, get_terms_accepted}

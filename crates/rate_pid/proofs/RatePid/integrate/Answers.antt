@@ -1,4 +1,3 @@
-use borrow.Author.Rules.{rules}
 use Rattle.rate_pid.proofs.Steps.{picked}
 use Rattle.rate_pid.proofs.RatePid.integrate.Goals as goal
 

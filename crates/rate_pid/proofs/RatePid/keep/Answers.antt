@@ -1,5 +1,4 @@
 use mathlib.Core.Path.{sym, ◌∙◌}
-use borrow.Author.Rules.{rules}
 use Rattle.rate_pid.specs.RatePidLaws.{guard_refused, guard_passed}
 use Rattle.rate_pid.proofs.RatePid.keep.Goals as goal
 

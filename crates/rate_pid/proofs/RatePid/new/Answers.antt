@@ -1,4 +1,3 @@
-use borrow.Author.Rules.{rules}
 use Rattle.rate_pid.specs.RatePid.{new_rate_pid}
 use Rattle.rate_pid.proofs.RatePid.new.Goals as goal
 

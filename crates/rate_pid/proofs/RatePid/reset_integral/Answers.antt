@@ -1,4 +1,3 @@
-use borrow.Author.Rules.{rules}
 use Rattle.rate_pid.specs.RatePid.{reset_integral_rate_pid, call_reset_integral_rate_pid}
 use Rattle.rate_pid.proofs.RatePid.reset_integral.Goals as goal
 

@@ -1,4 +1,3 @@
-use borrow.Author.Rules.{rules}
 use Rattle.rate_pid.specs.RatePid.{set_gains_rate_pid, call_set_gains_rate_pid}
 use Rattle.rate_pid.proofs.RatePid.set_gains.Goals as goal
 

@@ -1,4 +1,3 @@
-use borrow.Author.Rules.{rules}
 use Rattle.rate_pid.specs.RatePid.{with_slew, set_ts_rate_pid, call_set_ts_rate_pid}
 use Rattle.rate_pid.proofs.RatePid.set_ts.Goals as goal
 

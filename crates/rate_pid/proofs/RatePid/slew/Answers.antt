@@ -1,5 +1,4 @@
 use mathlib.Core.Path.{sym, ◌∙◌}
-use borrow.Author.Rules.{rules}
 use Rattle.rate_pid.specs.RatePidLaws.{slew_limit_refused}
 use Rattle.rate_pid.proofs.Steps.{limited}
 use Rattle.rate_pid.proofs.RatePid.slew.Goals as goal

@@ -1,5 +1,4 @@
 use mathlib.Core.Path.{ap}
-use borrow.Author.Rules.{rules}
 use Rattle.rate_pid.specs.declared.slew.Slewed.{Slewed}
 use Rattle.rate_pid.specs.RatePid.{bad_rate_pid, slewed_of}
 use Rattle.rate_pid.proofs.Steps.{stepped}

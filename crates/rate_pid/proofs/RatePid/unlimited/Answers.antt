@@ -1,4 +1,3 @@
-use borrow.Author.Rules.{rules}
 use Rattle.rate_pid.specs.RatePid.{unlimited_rate_pid}
 use Rattle.rate_pid.proofs.RatePid.unlimited.Goals as goal
 

@@ -1,5 +1,4 @@
 use mathlib.Core.Path.{sym, ◌∙◌}
-use borrow.Author.Rules.{rules}
 use Rattle.rate_pid.specs.RatePidLaws.{update_refused}
 use Rattle.rate_pid.proofs.Steps.{accepted}
 use Rattle.rate_pid.proofs.RatePid.update.Goals as goal

@@ -1,4 +1,3 @@
-use borrow.Author.Rules.{rules}
 use Rattle.rate_pid.specs.RatePid.{zero_rate_pid, zero_lowpass}
 use Rattle.rate_pid.proofs.RatePid.zero.Goals as goal
 

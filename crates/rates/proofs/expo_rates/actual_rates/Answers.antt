@@ -1,4 +1,3 @@
-use borrow.Author.Rules.{rules}
 use Rattle.rates.specs.ExpoRates.{actual_rates}
 use Rattle.rates.proofs.expo_rates.actual_rates.Goals as goal
 

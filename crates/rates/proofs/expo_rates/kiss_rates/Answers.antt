@@ -1,4 +1,3 @@
-use borrow.Author.Rules.{rules}
 use Rattle.rates.specs.ExpoRates.{kiss_rates}
 use Rattle.rates.proofs.expo_rates.kiss_rates.Goals as goal
 

@@ -1,6 +1,5 @@
 use mathlib.Core.Path.{sym, ap}
 use Rattle.refusal.specs.Refusal.{number_of}
-use borrow.Author.Rules.{rules}
 use Rattle.refusal.proofs.Refusal.number.Goals as goal
 
 pub returns-in-None : goal.returns-in-None

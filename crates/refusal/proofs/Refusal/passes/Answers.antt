@@ -1,5 +1,4 @@
 use Rattle.refusal.specs.Refusal.{passes}
-use borrow.Author.Rules.{rules}
 use Rattle.refusal.proofs.Refusal.passes.Goals as goal
 
 pub returns : goal.returns

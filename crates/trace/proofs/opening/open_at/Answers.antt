@@ -1,5 +1,4 @@
 use Rattle.trace.specs.StartLaws.{open_of_cells}
-use borrow.Author.Rules.{rules}
 use Rattle.trace.proofs.opening.open_at.Goals as goal
 
 pub returns : goal.returns

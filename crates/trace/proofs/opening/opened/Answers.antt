@@ -1,11 +1,6 @@
-use Rattle.bank.specs.BankRuns.{after}
-use Rattle.trace.specs.LanesInTurn.{in_turn, read_each}
-use Rattle.trace.specs.Trace.{open_of, opened_bank}
 use Rattle.trace.specs.StartLaws.{opening_more, opening_done, opening_start}
-use mathlib.Core.Path.{◌≡◌, refl, ◌∙◌}
-use Prim.Native.Nat.{◌-◌, ◌*◌}
+use mathlib.Core.Path.{refl, ◌∙◌}
 use native.Mathlib.Omega.{arith}
-use lib.ListN.{drop}
 use Rattle.trace.proofs.opening.opened.Goals as goal
 
 pub fresh-bank-requires : goal.fresh-bank-requires

@@ -1,10 +1,8 @@
 use Rattle.bank.specs.BankRuns.{after}
 use Rattle.trace.specs.LanesInTurn.{in_turn, read_each}
 use Rattle.trace.specs.Trace.{open_of, opened_bank}
-use Rattle.trace.specs.StartLaws.{opening_more, opening_done, opening_start}
-use mathlib.Core.Path.{◌≡◌, refl, ◌∙◌}
+use mathlib.Core.Path.{◌≡◌}
 use Prim.Native.Nat.{◌-◌, ◌*◌}
-use native.Mathlib.Omega.{arith}
 use lib.ListN.{drop}
 use Rattle.trace.proofs.opening.opened.Given as goal
 

@@ -1,5 +1,4 @@
 use Rattle.trace.specs.Trace.{refused_start}
-use borrow.Author.Rules.{rules}
 use Rattle.trace.proofs.opening.refused_start.Goals as goal
 
 pub returns : goal.returns

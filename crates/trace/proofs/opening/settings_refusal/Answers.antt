@@ -1,7 +1,5 @@
-use borrow.Author.Tests.{not-true, not-false}
 use Rattle.trace.specs.StartLaws.{settings_header, settings_kind, settings_shape, settings_cut, settings_none, rows_shape}
 use native.Mathlib.Omega.{arith}
-use borrow.Author.Rules.{rules}
 use Rattle.trace.proofs.opening.settings_refusal.Goals as goal
 
 pub returns-then-not-passes : goal.returns-then-not-passes

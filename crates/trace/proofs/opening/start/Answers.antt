@@ -1,8 +1,6 @@
 use Rattle.npy.specs.HeaderLaws.{at_within}
 use Rattle.trace.specs.StartLaws.{start_refused, start_given, settings_from_lem}
 use native.Mathlib.Omega.{arith}
-use borrow.Author.Rules.{rules}
-use borrow.Author.Tests.{not-true, not-false}
 use Rattle.trace.proofs.opening.start.Goals as goal
 
 pub header-head-requires : goal.header-head-requires

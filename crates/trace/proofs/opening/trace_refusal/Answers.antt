@@ -1,6 +1,4 @@
-use borrow.Author.Tests.{not-true, not-false}
 use Rattle.trace.specs.StartLaws.{trace_header, trace_kind, trace_shape, trace_none}
-use borrow.Author.Rules.{rules}
 use Rattle.trace.proofs.opening.trace_refusal.Goals as goal
 
 pub returns-then-not-passes : goal.returns-then-not-passes

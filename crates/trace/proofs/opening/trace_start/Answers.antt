@@ -1,7 +1,5 @@
 use Rattle.trace.specs.StartLaws.{trace_refused, trace_started, place-within}
 use native.Mathlib.Omega.{arith}
-use borrow.Author.Rules.{rules}
-use borrow.Author.Tests.{not-true, not-false}
 use Rattle.trace.proofs.opening.trace_start.Goals as goal
 
 pub returns-then-not-passes : goal.returns-then-not-passes

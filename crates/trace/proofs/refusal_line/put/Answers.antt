@@ -1,10 +1,7 @@
 use lib.ListN.{length-set}
-use lib.Seq.{sets}
 use Rattle.trace.specs.EndLaws.{text-more, text_done}
-use mathlib.Core.Path.{◌≡◌, refl, ◌∙◌}
-use Prim.Native.Nat.{◌≤◌, ◌-◌, ◌+◌}
+use mathlib.Core.Path.{refl, ◌∙◌}
 use native.Mathlib.Omega.{arith}
-use lib.ListN.{length, drop}
 use Rattle.trace.proofs.refusal_line.put.Goals as goal
 
 pub loop-i-init : goal.loop-i-init

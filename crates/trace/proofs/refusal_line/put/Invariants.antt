@@ -1,9 +1,6 @@
-use lib.ListN.{length-set}
 use lib.Seq.{sets}
-use Rattle.trace.specs.EndLaws.{text-more, text_done}
-use mathlib.Core.Path.{◌≡◌, refl, ◌∙◌}
+use mathlib.Core.Path.{◌≡◌}
 use Prim.Native.Nat.{◌≤◌, ◌-◌, ◌+◌}
-use native.Mathlib.Omega.{arith}
 use lib.ListN.{length, drop}
 use Rattle.trace.proofs.refusal_line.put.Given as goal
 

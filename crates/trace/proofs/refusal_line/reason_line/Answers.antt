@@ -1,5 +1,4 @@
 use Rattle.trace.specs.EndLaws.{reason_none, reason_some}
-use borrow.Author.Rules.{rules}
 use Rattle.trace.proofs.refusal_line.reason_line.Goals as goal
 
 pub returns-then-passes : goal.returns-then-passes

@@ -2,13 +2,11 @@ use Rattle.lemmas.specs.Lists.{as_long_still}
 use Rattle.trace.specs.Trace.{course_lines}
 use Rattle.trace.specs.Slices.{row_cells, row_values}
 use Rattle.trace.specs.MeasureLaws.{there_here, fewer_left}
-use Rattle.trace.specs.PrintLaws.{Printing, print_start, print_refused, print_none, print_on, print_done}
-use mathlib.Core.Path.{◌≡◌, refl, sym, ap, ◌∙◌}
+use Rattle.trace.specs.PrintLaws.{print_start, print_refused, print_none, print_on, print_done}
+use mathlib.Core.Path.{refl, sym, ap, ◌∙◌}
 use native.Mathlib.Omega.{arith}
 use lib.ListN.{length}
 use lib.Seq.{length-sets}
-use borrow.Author.Rules.{rules}
-use borrow.Author.Tests.{not-true, not-false}
 use Rattle.trace.proofs.whole.print.Goals as goal
 
 pub loop-going-init : goal.loop-going-init
@@ -78,13 +76,12 @@ pub loop-going-smaller : goal.loop-going-smaller
 loop-going-smaller c = fewer_left c.args.trace.now c.loop-going.going c.loop-going.at (length c.loop-going.cells) (length c.loop-going.values) _ _ c.rows-went.ensures.0 (sym c.passes.ensures ∙ c.if-not-passes.false) c.if-went-eq0.false
 
 pub loop-going-preserved : goal.loop-going-preserved
-loop-going-preserved c =
-    (
-      print_on c.args.trace.now c.args.out.now c.args.course c.loop-going.out c.loop-going.going c.loop-going.at c.loop-going.o c.loop-going.invariant.0
-          (length c.loop-going.cells) (length c.loop-going.values) _ _ c.loop-going-test.true c.rows-went.ensures.0 c.rows-went.ensures.3 _ c.passes.ensures c.if-not-passes.false,
-      as_long_still c.loop-going.cells _ (row_cells _ _ _) c.rows-went.ensures.1 ∙ c.loop-going.invariant.1,
-      as_long_still c.loop-going.values _ (row_values _ _ _) c.rows-went.ensures.2 ∙ c.loop-going.invariant.2,
-    )
+loop-going-preserved c = (
+  print_on c.args.trace.now c.args.out.now c.args.course c.loop-going.out c.loop-going.going c.loop-going.at c.loop-going.o c.loop-going.invariant.0
+      (length c.loop-going.cells) (length c.loop-going.values) _ _ c.loop-going-test.true c.rows-went.ensures.0 c.rows-went.ensures.3 _ c.passes.ensures c.if-not-passes.false,
+  as_long_still c.loop-going.cells _ (row_cells _ _ _) c.rows-went.ensures.1 ∙ c.loop-going.invariant.1,
+  as_long_still c.loop-going.values _ (row_values _ _ _) c.rows-went.ensures.2 ∙ c.loop-going.invariant.2,
+)
 
 pub shape_of-cells : goal.shape_of-cells
 shape_of-cells c = c.loop-going.invariant.1

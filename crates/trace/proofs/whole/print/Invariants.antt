@@ -1,14 +1,6 @@
-use Rattle.lemmas.specs.Lists.{as_long_still}
-use Rattle.trace.specs.Trace.{course_lines}
-use Rattle.trace.specs.Slices.{row_cells, row_values}
-use Rattle.trace.specs.MeasureLaws.{there_here, fewer_left}
-use Rattle.trace.specs.PrintLaws.{Printing, print_start, print_refused, print_none, print_on, print_done}
-use mathlib.Core.Path.{◌≡◌, refl, sym, ap, ◌∙◌}
-use native.Mathlib.Omega.{arith}
+use Rattle.trace.specs.PrintLaws.{Printing}
+use mathlib.Core.Path.{◌≡◌}
 use lib.ListN.{length}
-use lib.Seq.{length-sets}
-use borrow.Author.Rules.{rules}
-use borrow.Author.Tests.{not-true, not-false}
 use Rattle.trace.proofs.whole.print.Given as goal
 
 abbrev pub invariant-loop-going : goal.invariant-loop-going

@@ -1,5 +1,4 @@
 use Rattle.trace.specs.ReplayLaws.{no_line, short_line, long_line}
-use borrow.Author.Rules.{rules}
 use Rattle.trace.proofs.whole.reason_length.Goals as goal
 
 pub returns-then-n-lt1 : goal.returns-then-n-lt1

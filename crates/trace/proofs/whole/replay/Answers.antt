@@ -1,7 +1,5 @@
 use Rattle.trace.specs.ReplayLaws.{replay_of-refused, replay_of_trace, start_bounds_from}
 use mathlib.Core.Path.{sym, ◌∙◌}
-use borrow.Author.Rules.{rules}
-use borrow.Author.Tests.{not-true, not-false}
 use Rattle.trace.proofs.whole.replay.Goals as goal
 
 pub replay_refused-requires : goal.replay_refused-requires

@@ -1,5 +1,4 @@
 use Rattle.trace.specs.ReplayLaws.{refused_answer}
-use borrow.Author.Rules.{rules}
 use Rattle.trace.proofs.whole.replay_refused.Goals as goal
 
 pub returns : goal.returns

@@ -3,7 +3,6 @@ use mathlib.Core.Path.{subst}
 use Prim.Native.Nat.{ℕ, ◌≤◌}
 use native.Mathlib.Omega.{arith}
 use lib.ListN.{length}
-use borrow.Author.Rules.{rules}
 use Rattle.trace.proofs.whole.replay_trace.Goals as goal
 
 pub overflow_mul-lines-2 : goal.overflow_mul-lines-2

@@ -1,4 +1,3 @@
-use borrow.Author.Rules.{rules}
 use Rattle.angle_pid.specs.LpFilter.{stored_tau}
 use Rattle.angle_pid.proofs.lp_filter.LpFilter.tau.Goals as goal
 

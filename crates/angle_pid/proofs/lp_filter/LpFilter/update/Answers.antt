@@ -1,4 +1,3 @@
-use borrow.Author.Rules.{rules}
 use Rattle.angle_pid.specs.LpFilter.{step_lp_filter}
 use Rattle.angle_pid.proofs.lp_filter.LpFilter.update.Goals as goal
 

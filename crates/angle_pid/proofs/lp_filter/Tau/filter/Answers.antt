@@ -1,4 +1,3 @@
-use borrow.Author.Rules.{rules}
 use Rattle.angle_pid.specs.LpFilter.{new_lp_filter}
 use Rattle.angle_pid.proofs.lp_filter.Tau.filter.Goals as goal
 

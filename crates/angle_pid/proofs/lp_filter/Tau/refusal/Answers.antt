@@ -1,4 +1,3 @@
-use borrow.Author.Rules.{rules}
 use Rattle.angle_pid.specs.LpFilter.{tau_refusal}
 use Rattle.angle_pid.proofs.lp_filter.Tau.refusal.Goals as goal
 

@@ -1,5 +1,4 @@
 use Rattle.angle_pid.specs.Pid.{with_integral}
-use borrow.Author.Rules.{rules}
 use Rattle.angle_pid.specs.Pid.{call_enable_reset_integral_pid}
 use Rattle.angle_pid.proofs.pid.Pid.enable_reset_integral.Goals as goal
 

@@ -1,6 +1,5 @@
 use Rattle.lemmas.specs.Cases.{when_true, when_false}
 use mathlib.Core.Path.{sym, ◌∙◌}
-use borrow.Author.Rules.{rules}
 use Rattle.angle_pid.specs.Pid.{unless_refused}
 use Rattle.angle_pid.proofs.pid.Pid.keep.Goals as goal
 

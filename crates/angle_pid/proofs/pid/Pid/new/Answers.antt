@@ -1,5 +1,4 @@
 use Rattle.angle_pid.specs.Pid.{zero_pid}
-use borrow.Author.Rules.{rules}
 use Rattle.angle_pid.specs.Pid.{new_pid}
 use Rattle.angle_pid.proofs.pid.Pid.new.Goals as goal
 

@@ -1,4 +1,3 @@
-use borrow.Author.Rules.{rules}
 use Rattle.angle_pid.specs.Pid.{pid_refusal}
 use Rattle.angle_pid.proofs.pid.Pid.refusal.Goals as goal
 

@@ -1,4 +1,3 @@
-use borrow.Author.Rules.{rules}
 use Rattle.angle_pid.specs.Pid.{call_reset_integral_pid}
 use Rattle.angle_pid.proofs.pid.Pid.reset_integral.Goals as goal
 

@@ -1,5 +1,4 @@
 use Rattle.angle_pid.specs.Pid.{with_integral}
-use borrow.Author.Rules.{rules}
 use Rattle.angle_pid.specs.Pid.{call_reset_integral_to_pid}
 use Rattle.angle_pid.proofs.pid.Pid.reset_integral_to.Goals as goal
 

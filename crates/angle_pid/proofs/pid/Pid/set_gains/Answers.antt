@@ -1,5 +1,4 @@
 use Rattle.angle_pid.specs.Pid.{set_gains_pid}
-use borrow.Author.Rules.{rules}
 use Rattle.angle_pid.specs.Pid.{call_set_gains_pid}
 use Rattle.angle_pid.proofs.pid.Pid.set_gains.Goals as goal
 

@@ -1,4 +1,3 @@
-use borrow.Author.Rules.{rules}
 use Rattle.angle_pid.specs.Pid.{call_set_lp_filter_pid}
 use Rattle.angle_pid.proofs.pid.Pid.set_lp_filter.Goals as goal
 

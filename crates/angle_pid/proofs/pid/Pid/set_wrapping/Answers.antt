@@ -1,4 +1,3 @@
-use borrow.Author.Rules.{rules}
 use Rattle.angle_pid.specs.Pid.{call_set_wrapping_pid}
 use Rattle.angle_pid.proofs.pid.Pid.set_wrapping.Goals as goal
 

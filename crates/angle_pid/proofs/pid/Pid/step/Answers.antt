@@ -1,5 +1,4 @@
 use Rattle.angle_pid.specs.Pid.{with_parts, moved_error, moved_integral, proportional, derivative, next_integral}
-use borrow.Author.Rules.{rules}
 use Rattle.angle_pid.specs.Pid.{step_pid}
 use Rattle.angle_pid.proofs.pid.Pid.step.Goals as goal
 

@@ -1,8 +1,6 @@
 use Rattle.refusal.specs.Refusal.{passes}
 use Rattle.angle_pid.specs.PidLaws.{after-refused, after-settled, update_bad, update_good}
-use borrow.Author.Tests.{not-true, not-false}
 use mathlib.Core.Path.{sym, ap, ◌∙◌}
-use borrow.Author.Rules.{rules}
 use Rattle.angle_pid.proofs.pid.Pid.update_ts.Goals as goal
 
 pub returns-then-not-passes : goal.returns-then-not-passes

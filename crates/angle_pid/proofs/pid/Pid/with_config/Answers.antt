@@ -1,4 +1,3 @@
-use borrow.Author.Rules.{rules}
 use Rattle.angle_pid.specs.Pid.{config_refusal, with_config_pid, call_with_config_pid}
 use Rattle.angle_pid.proofs.pid.Pid.with_config.Goals as goal
 

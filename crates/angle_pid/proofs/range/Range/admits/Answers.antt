@@ -1,4 +1,3 @@
-use borrow.Author.Rules.{rules}
 use Rattle.angle_pid.specs.Range.{admits}
 use Rattle.angle_pid.proofs.range.Range.admits.Goals as goal
 

@@ -1,4 +1,3 @@
-use borrow.Author.Rules.{rules}
 use Rattle.angle_pid.specs.Range.{range_refusal}
 use Rattle.angle_pid.proofs.range.Range.refusal.Goals as goal
 

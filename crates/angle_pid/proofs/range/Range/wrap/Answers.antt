@@ -1,4 +1,3 @@
-use borrow.Author.Rules.{rules}
 use Rattle.angle_pid.specs.Range.{wrap_error}
 use Rattle.angle_pid.proofs.range.Range.wrap.Goals as goal
 

@@ -1,7 +1,6 @@
 use Rattle.bank.specs.Lane.{call_lane}
 use Rattle.bank.proofs.Steps.{shut, closed_bad, closed_good}
 use mathlib.Core.Path.{sym, ◌∙◌}
-use borrow.Author.Rules.{rules}
 use Rattle.bank.proofs.lane.Lane.close.Goals as goal
 
 pub returns-then-bad : goal.returns-then-bad

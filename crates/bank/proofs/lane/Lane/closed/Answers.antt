@@ -1,5 +1,4 @@
 use Rattle.bank.specs.Lane.{closed_lane}
-use borrow.Author.Rules.{rules}
 use Rattle.bank.proofs.lane.Lane.closed.Goals as goal
 
 pub returns : goal.returns

@@ -1,6 +1,5 @@
 use Rattle.bank.proofs.Steps.{open_open, open_bad, open_plain, open_limit, open_slewed}
 use mathlib.Core.Path.{sym, ◌∙◌}
-use borrow.Author.Rules.{rules}
 use Rattle.bank.proofs.lane.Lane.open.Goals as goal
 
 pub returns-then-self : goal.returns-then-self

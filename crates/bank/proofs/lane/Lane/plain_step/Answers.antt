@@ -1,5 +1,4 @@
 use Rattle.rate_pid.specs.RatePid.{zero_terms}
-use borrow.Author.Rules.{rules}
 use Rattle.bank.proofs.lane.Lane.plain_step.Goals as goal
 
 pub returns : goal.returns

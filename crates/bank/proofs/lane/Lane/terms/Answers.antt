@@ -1,6 +1,5 @@
 use Rattle.bank.specs.Lane.{call_lane}
 use Rattle.bank.proofs.Steps.{shut, read_terms}
-use borrow.Author.Rules.{rules}
 use Rattle.bank.proofs.lane.Lane.terms.Goals as goal
 
 pub returns-then-self : goal.returns-then-self

@@ -1,4 +1,3 @@
-use borrow.Author.Rules.{rules}
 use Rattle.filters.specs.Complementary.{new_complementary}
 use Rattle.filters.proofs.complementary.Complementary.new.Goals as goal
 

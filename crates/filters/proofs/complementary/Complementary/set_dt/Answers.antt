@@ -1,4 +1,3 @@
-use borrow.Author.Rules.{rules}
 use Rattle.filters.specs.Complementary.{set_dt_complementary}
 use Rattle.filters.proofs.complementary.Complementary.set_dt.Goals as goal
 

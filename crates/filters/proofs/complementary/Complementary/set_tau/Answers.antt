@@ -1,4 +1,3 @@
-use borrow.Author.Rules.{rules}
 use Rattle.filters.specs.Complementary.{set_tau_complementary}
 use Rattle.filters.proofs.complementary.Complementary.set_tau.Goals as goal
 

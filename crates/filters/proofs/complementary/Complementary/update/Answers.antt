@@ -1,4 +1,3 @@
-use borrow.Author.Rules.{rules}
 use Rattle.filters.specs.Complementary.{step_complementary}
 use Rattle.filters.proofs.complementary.Complementary.update.Goals as goal
 

@@ -1,4 +1,3 @@
-use borrow.Author.Rules.{rules}
 use Rattle.filters.specs.Highpass.{new_highpass}
 use Rattle.filters.proofs.highpass.Highpass.new.Goals as goal
 

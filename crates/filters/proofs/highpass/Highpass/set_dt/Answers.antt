@@ -1,4 +1,3 @@
-use borrow.Author.Rules.{rules}
 use Rattle.filters.specs.Highpass.{set_dt_highpass}
 use Rattle.filters.proofs.highpass.Highpass.set_dt.Goals as goal
 

@@ -1,4 +1,3 @@
-use borrow.Author.Rules.{rules}
 use Rattle.filters.specs.Highpass.{set_tau_highpass}
 use Rattle.filters.proofs.highpass.Highpass.set_tau.Goals as goal
 

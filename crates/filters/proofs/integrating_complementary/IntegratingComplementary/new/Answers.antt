@@ -1,4 +1,3 @@
-use borrow.Author.Rules.{rules}
 use Rattle.filters.specs.IntegratingComplementary.{new_integrating_complementary}
 use Rattle.filters.proofs.integrating_complementary.IntegratingComplementary.new.Goals as goal
 

@@ -1,4 +1,3 @@
-use borrow.Author.Rules.{rules}
 use Rattle.filters.specs.IntegratingComplementary.{set_dt_integrating_complementary}
 use Rattle.filters.proofs.integrating_complementary.IntegratingComplementary.set_dt.Goals as goal
 

@@ -1,4 +1,3 @@
-use borrow.Author.Rules.{rules}
 use Rattle.filters.specs.IntegratingHighpass.{new_integrating_highpass}
 use Rattle.filters.proofs.integrating_highpass.IntegratingHighpass.new.Goals as goal
 

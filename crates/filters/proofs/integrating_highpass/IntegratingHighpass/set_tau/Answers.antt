@@ -1,4 +1,3 @@
-use borrow.Author.Rules.{rules}
 use Rattle.filters.specs.IntegratingHighpass.{set_tau_integrating_highpass}
 use Rattle.filters.proofs.integrating_highpass.IntegratingHighpass.set_tau.Goals as goal
 

@@ -1,4 +1,3 @@
-use borrow.Author.Rules.{rules}
 use Rattle.filters.specs.Lowpass.{new_lowpass}
 use Rattle.filters.proofs.lowpass.Lowpass.new.Goals as goal
 

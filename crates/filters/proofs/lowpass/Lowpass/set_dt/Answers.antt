@@ -1,4 +1,3 @@
-use borrow.Author.Rules.{rules}
 use Rattle.filters.specs.Lowpass.{set_dt_lowpass}
 use Rattle.filters.proofs.lowpass.Lowpass.set_dt.Goals as goal
 

@@ -1,4 +1,3 @@
-use borrow.Author.Rules.{rules}
 use Rattle.filters.specs.Lowpass.{set_tau_lowpass}
 use Rattle.filters.proofs.lowpass.Lowpass.set_tau.Goals as goal
 

@@ -1,4 +1,3 @@
-use borrow.Author.Rules.{rules}
 use Rattle.filters.specs.Lowpass2.{set_dt_lowpass2}
 use Rattle.filters.proofs.lowpass2.NthOrderLowpass.set_dt.Goals as goal
 

@@ -1,4 +1,3 @@
-use borrow.Author.Rules.{rules}
 use Rattle.filters.specs.Lowpass2.{step_lowpass2}
 use Rattle.filters.proofs.lowpass2.NthOrderLowpass.update.Goals as goal
 

@@ -1,5 +1,4 @@
 use mathlib.Core.Path.{sym, ◌∙◌}
-use borrow.Author.Rules.{rules}
 use Rattle.filters.specs.MovingAverage.{bad_window}
 use Rattle.filters.proofs.moving_average.MovingAverage.bad.Goals as goal
 

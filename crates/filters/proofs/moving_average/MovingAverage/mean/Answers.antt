@@ -1,10 +1,10 @@
 use mathlib.Core.Path.{◌≡◌, refl}
-use Prim.Native.Nat.{◌^◌, ◌≤◌, ◌-◌}
+use Prim.Native.Nat.{◌^◌}
 use native.Mathlib.Omega.{arith}
-use lib.ListN.{take, length-map}
+use lib.ListN.{length-map}
 use lib.Dec.{le→leb}
 use lib.Ieee.{in_float}
-use Rattle.filters.specs.MovingAverage.{sum_f, window_mean}
+use Rattle.filters.specs.MovingAverage.{window_mean}
 use Rattle.filters.proofs.Turns.{sum-turn}
 use Rattle.filters.proofs.moving_average.MovingAverage.mean.Goals as goal
 

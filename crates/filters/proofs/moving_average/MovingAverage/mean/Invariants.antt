@@ -1,11 +1,7 @@
-use mathlib.Core.Path.{◌≡◌, refl}
-use Prim.Native.Nat.{◌^◌, ◌≤◌, ◌-◌}
-use native.Mathlib.Omega.{arith}
-use lib.ListN.{take, length-map}
-use lib.Dec.{le→leb}
-use lib.Ieee.{in_float}
-use Rattle.filters.specs.MovingAverage.{sum_f, window_mean}
-use Rattle.filters.proofs.Turns.{sum-turn}
+use mathlib.Core.Path.{◌≡◌}
+use Prim.Native.Nat.{◌≤◌, ◌-◌}
+use lib.ListN.{take}
+use Rattle.filters.specs.MovingAverage.{sum_f}
 use Rattle.filters.proofs.moving_average.MovingAverage.mean.Given as goal
 
 abbrev pub invariant-loop-i : goal.invariant-loop-i

@@ -1,4 +1,3 @@
-use borrow.Author.Rules.{rules}
 use Rattle.filters.specs.MovingAverage.{call_new_moving_average}
 use Rattle.filters.proofs.moving_average.MovingAverage.new.Goals as goal
 

@@ -1,5 +1,4 @@
 use mathlib.Core.Path.{sym, ◌∙◌}
-use borrow.Author.Rules.{rules}
 use Rattle.filters.specs.MovingAverageLaws.{length_fits, new_average_refused, new_average_accepted}
 use Rattle.filters.proofs.moving_average.MovingAverage.new_with_value.Goals as goal
 

@@ -1,4 +1,3 @@
-use borrow.Author.Rules.{rules}
 use borrow.Author.Tests.{lt-ltb, le-ltb}
 use Rattle.filters.specs.MovingAverage.{window_store}
 use Rattle.filters.proofs.moving_average.MovingAverage.store.Goals as goal

@@ -1,5 +1,4 @@
 use mathlib.Core.Path.{sym, ◌∙◌}
-use borrow.Author.Rules.{rules}
 use Rattle.filters.specs.MovingAverageLaws.{window_fits, store_length, update_average_refused, update_average_accepted}
 use Rattle.filters.proofs.moving_average.MovingAverage.update.Goals as goal
 

@@ -1,5 +1,4 @@
 use mathlib.Core.Path.{sym, ◌∙◌}
-use borrow.Author.Rules.{rules}
 use Rattle.filters.specs.SlewRateLaws.{new_slew_refused, new_slew_accepted}
 use Rattle.filters.proofs.slew_rate.SlewRate.new.Goals as goal
 

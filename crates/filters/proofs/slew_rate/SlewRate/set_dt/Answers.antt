@@ -1,5 +1,4 @@
 use mathlib.Core.Path.{sym, ◌∙◌}
-use borrow.Author.Rules.{rules}
 use Rattle.filters.specs.SlewRate.{set_dt_slew_rate}
 use Rattle.filters.specs.SlewRateLaws.{set_dt_slew-refused, set_dt_slew-accepted}
 use Rattle.filters.proofs.slew_rate.SlewRate.set_dt.Goals as goal

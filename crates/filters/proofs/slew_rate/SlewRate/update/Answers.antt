@@ -1,5 +1,4 @@
 use mathlib.Core.Path.{sym, ◌∙◌}
-use borrow.Author.Rules.{rules}
 use Rattle.filters.specs.SlewRate.{slew_change, step_slew_rate}
 use Rattle.filters.specs.SlewRateLaws.{update_slew_refused, update_slew_accepted}
 use Rattle.filters.proofs.slew_rate.SlewRate.update.Goals as goal

@@ -1,4 +1,3 @@
-use borrow.Author.Rules.{rules}
 use Rattle.notch.specs.NotchFilter.{new_notch_filter}
 use Rattle.notch.proofs.notch_filter.NotchFilter.new.Goals as goal
 

@@ -1,4 +1,3 @@
-use borrow.Author.Rules.{rules}
 use Rattle.notch.specs.NotchFilter.{retuned}
 use Rattle.notch.proofs.notch_filter.NotchFilter.retuned.Goals as goal
 

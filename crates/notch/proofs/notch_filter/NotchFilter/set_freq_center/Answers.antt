@@ -1,4 +1,3 @@
-use borrow.Author.Rules.{rules}
 use Rattle.notch.specs.NotchFilter.{set_freq_center_notch_filter}
 use Rattle.notch.proofs.notch_filter.NotchFilter.set_freq_center.Goals as goal
 

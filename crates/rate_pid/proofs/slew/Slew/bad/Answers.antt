@@ -1,4 +1,3 @@
-use borrow.Author.Rules.{rules}
 use Rattle.rate_pid.specs.Slew.{bad_slew}
 use Rattle.rate_pid.proofs.slew.Slew.bad.Goals as goal
 

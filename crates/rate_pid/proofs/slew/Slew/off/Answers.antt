@@ -1,4 +1,3 @@
-use borrow.Author.Rules.{rules}
 use Rattle.rate_pid.specs.Slew.{is_off}
 use Rattle.rate_pid.proofs.slew.Slew.off.Goals as goal
 

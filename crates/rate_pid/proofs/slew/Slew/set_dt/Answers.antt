@@ -1,4 +1,3 @@
-use borrow.Author.Rules.{rules}
 use Rattle.filters.specs.SlewRate.{set_dt_slew_rate}
 use Rattle.rate_pid.specs.Slew.{set_dt_slew}
 use Rattle.rate_pid.proofs.slew.Slew.set_dt.Goals as goal

@@ -1,4 +1,3 @@
-use borrow.Author.Rules.{rules}
 use Rattle.rate_pid.specs.Slew.{step_slew}
 use Rattle.rate_pid.proofs.Steps.{slew_stepped}
 use Rattle.rate_pid.proofs.slew.Slew.update.Goals as goal

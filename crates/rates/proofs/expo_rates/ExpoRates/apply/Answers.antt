@@ -1,4 +1,3 @@
-use borrow.Author.Rules.{rules}
 use Rattle.rates.specs.ExpoRates.{apply_expo}
 use Rattle.rates.proofs.expo_rates.ExpoRates.apply.Goals as goal
 

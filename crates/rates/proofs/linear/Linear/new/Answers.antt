@@ -1,4 +1,3 @@
-use borrow.Author.Rules.{rules}
 use Rattle.rates.specs.Linear.{new_linear}
 use Rattle.rates.proofs.linear.Linear.new.Goals as goal
 

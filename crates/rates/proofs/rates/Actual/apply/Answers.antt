@@ -1,4 +1,3 @@
-use borrow.Author.Rules.{rules}
 use Rattle.rates.specs.Rates.{apply_actual}
 use Rattle.rates.proofs.rates.Actual.apply.Goals as goal
 

@@ -1,4 +1,3 @@
-use borrow.Author.Rules.{rules}
 use Rattle.rates.specs.Rates.{new_linear_curve}
 use Rattle.rates.proofs.rates.Linear.new.Goals as goal
 

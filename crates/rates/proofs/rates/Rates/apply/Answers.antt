@@ -1,4 +1,3 @@
-use borrow.Author.Rules.{rules}
 use Rattle.rates.specs.Rates.{apply_rates}
 use Rattle.rates.proofs.rates.Rates.apply.Goals as goal
 
