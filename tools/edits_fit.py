@@ -1,0 +1,61 @@
+#!/usr/bin/env python3
+"""Says of each must-fail edit, edits/CRATE/*.edit and crates/CRATE/must-fail/*.edit, whether it still fits its crate's text: whether each `old:` text
+stands exactly once in its file, with the pairs before it applied. Status 1 where one does not, or where an edit changes nothing.
+
+  tools/edits_fit.py [--all] [CRATE...]     --all names those that fit too
+"""
+
+import pathlib
+import sys
+
+ROOT = pathlib.Path(__file__).resolve().parent.parent
+
+
+def fault(edit, crate):
+    """What keeps an edit from being applied, or None. The form is rt's: lines `file: `, and pairs of `old: ` and `new:`; no other line is read."""
+    file, old, pairs, texts, was = None, None, 0, {}, {}
+    for line in edit.read_text(encoding="utf-8").split("\n"):
+        if line.startswith("file: "):
+            file = line[len("file: ") :].strip()
+        elif line.startswith("old: "):
+            old = line[len("old: ") :]
+        elif line.startswith("new:"):
+            new = line[len("new:") :].removeprefix(" ")
+            if not file or not old:
+                return "a `new:` line stands before any `file:` or `old:` line"
+            if file not in texts:
+                path = crate / file
+                if not path.is_file():
+                    return f"there is no file {file}"
+                texts[file] = was[file] = path.read_text(encoding="utf-8")
+            found = texts[file].count(old)
+            if found != 1:
+                return f"in {file} {found} times, and not once: {old}"
+            texts[file] = texts[file].replace(old, new)
+            old, pairs = None, pairs + 1
+        elif line.strip() and not line.startswith(("#", "--", "//")):
+            return f"a line that is not read: {line}"
+    if not pairs:
+        return "it has no pair of `old:` and `new:`"
+    return None if texts != was else "it changes nothing"
+
+
+def main():
+    words = sys.argv[1:]
+    shows_all = "--all" in words
+    names = [word for word in words if word != "--all"]
+    edits = sorted([*ROOT.glob("edits/*/*.edit"), *ROOT.glob("crates/*/must-fail/*.edit")])
+    tried = unfit = 0
+    for edit in edits:
+        crate = edit.parent.name if edit.parent.parent.name == "edits" else edit.parent.parent.name
+        if names and crate not in names:
+            continue
+        why = fault(edit, ROOT / "crates" / crate)
+        tried, unfit = tried + 1, unfit + bool(why)
+        if why or shows_all:
+            print(f"{edit.relative_to(ROOT)}: {why or 'fits'}")
+    print(f"edits_fit: {tried} edits, {unfit} of them do not fit")
+    sys.exit(1 if unfit else 0)
+
+
+main()
