@@ -4,7 +4,15 @@
 mod line;
 
 use calls_words::{places, text};
-use libc::{STDERR_FILENO, STDIN_FILENO, STDOUT_FILENO};
+use std::io::{Read, Stderr, Stdin, Stdout};
+
+// The three standard streams.
+#[derive(Clone, Copy)]
+struct Standard {
+    input: Stdin,
+    output: Stdout,
+    error: Stderr,
+}
 
 // What is kept from byte to byte and from read to read: how many bytes of a line have come, whether it is longer than a
 // line may be, how many bytes of answers wait to be written, and whether it goes on: no read and no write failed, and the
@@ -23,9 +31,9 @@ const LINE: usize = 2000;
 // Answers are written out before fewer bytes than this are left for the next, which is more than the longest answer.
 const ROOM: usize = 1024;
 
-// There is no exit status by which a program could tell that a read or a write failed: it says so on standard error.
-fn say(words: &[u8]) {
-    io::write_all(STDERR_FILENO, words);
+// The exit status does not tell that a read or a write failed: it is said on standard error.
+fn say(standard: Standard, words: &[u8]) {
+    let _ = standard.error.write_all(words);
 }
 
 fn stopped(p: Place) -> Place {
@@ -38,23 +46,23 @@ fn stopped(p: Place) -> Place {
 }
 
 // Writes the answers that wait.
-fn write(out: &[u8], wait: usize) -> bool {
+fn write(standard: Standard, out: &[u8], wait: usize) -> bool {
     if out.len() < wait {
         return false;
     }
-    if io::write_all(STDOUT_FILENO, &out[..wait]) {
+    if standard.output.write_all(&out[..wait]).is_ok() {
         return true;
     }
-    say(b"calls: write failed\n");
+    say(standard, b"calls: write failed\n");
     false
 }
 
 // A write that failed is not forgotten by a later one.
-fn flush(p: Place, out: &[u8]) -> Place {
+fn flush(standard: Standard, p: Place, out: &[u8]) -> Place {
     if !p.going {
         return p;
     }
-    let going = write(out, p.wait);
+    let going = write(standard, out, p.wait);
     Place {
         kept: p.kept,
         long: p.long,
@@ -83,7 +91,13 @@ fn has_room(out: &[u8], wait: usize) -> bool {
 }
 
 // Answers the line that has come, and begins the next.
-fn end_line(p: Place, line: &[u8], states: &mut [u32], out: &mut [u8]) -> Place {
+fn end_line(
+    standard: Standard,
+    p: Place,
+    line: &[u8],
+    states: &mut [u32],
+    out: &mut [u8],
+) -> Place {
     let wait = put_line(p, line, states, out);
     let next = Place {
         kept: 0,
@@ -94,13 +108,20 @@ fn end_line(p: Place, line: &[u8], states: &mut [u32], out: &mut [u8]) -> Place 
     if has_room(out, wait) {
         return next;
     }
-    flush(next, out)
+    flush(standard, next, out)
 }
 
 // Takes one byte of the input.
-fn take_byte(p: Place, b: u8, line: &mut [u8], states: &mut [u32], out: &mut [u8]) -> Place {
+fn take_byte(
+    standard: Standard,
+    p: Place,
+    b: u8,
+    line: &mut [u8],
+    states: &mut [u32],
+    out: &mut [u8],
+) -> Place {
     if b == b'\n' {
-        return end_line(p, line, states, out);
+        return end_line(standard, p, line, states, out);
     }
     if LINE <= p.kept {
         return Place {
@@ -121,6 +142,7 @@ fn take_byte(p: Place, b: u8, line: &mut [u8], states: &mut [u32], out: &mut [u8
 
 // Takes the bytes that were read, as long as the answers can be written.
 fn take_bytes(
+    standard: Standard,
     p: Place,
     input: &[u8],
     line: &mut [u8],
@@ -130,7 +152,7 @@ fn take_bytes(
     let mut q = p;
     let mut i = 0;
     while i < input.len() && q.going {
-        q = take_byte(q, input[i], line, states, out);
+        q = take_byte(standard, q, input[i], line, states, out);
         i += 1;
     }
     q
@@ -138,30 +160,42 @@ fn take_bytes(
 
 // One read and the answers to the lines that it ended. At the end of the input a line that was begun counts as ended; a
 // failed read is no end, and such a line is not answered.
-fn turn(p: Place, input: &mut [u8], line: &mut [u8], states: &mut [u32], out: &mut [u8]) -> Place {
-    let got = libc::read(STDIN_FILENO, input);
-    if got < 0 {
-        say(b"calls: read failed\n");
+fn turn(
+    standard: Standard,
+    p: Place,
+    input: &mut [u8],
+    line: &mut [u8],
+    states: &mut [u32],
+    out: &mut [u8],
+) -> Place {
+    let mut from = standard.input;
+    let Ok(n) = from.read(input) else {
+        say(standard, b"calls: read failed\n");
         return stopped(p);
-    }
-    let n = io::count(got, input);
+    };
     if n == 0 {
-        return last(p, line, states, out);
+        return last(standard, p, line, states, out);
     }
-    let q = take_bytes(p, &input[..n], line, states, out);
-    flush(q, out)
+    let q = take_bytes(standard, p, &input[..n], line, states, out);
+    flush(standard, q, out)
 }
 
-fn last(p: Place, line: &mut [u8], states: &mut [u32], out: &mut [u8]) -> Place {
+fn last(
+    standard: Standard,
+    p: Place,
+    line: &mut [u8],
+    states: &mut [u32],
+    out: &mut [u8],
+) -> Place {
     if 0 < p.kept {
-        return stopped(flush(end_line(p, line, states, out), out));
+        return stopped(flush(standard, end_line(standard, p, line, states, out), out));
     }
     stopped(p)
 }
 
 // A proved loop has to end, and nothing says that the input does: so the turns are counted down, from a number that no run
 // uses up.
-fn run(input: &mut [u8], line: &mut [u8], states: &mut [u32], out: &mut [u8]) {
+fn run(standard: Standard, input: &mut [u8], line: &mut [u8], states: &mut [u32], out: &mut [u8]) {
     let mut p = Place {
         kept: 0,
         long: false,
@@ -170,15 +204,20 @@ fn run(input: &mut [u8], line: &mut [u8], states: &mut [u32], out: &mut [u8]) {
     };
     let mut turns = u64::MAX;
     while turns > 0 && p.going {
-        p = turn(p, input, line, states, out);
+        p = turn(standard, p, input, line, states, out);
         turns -= 1;
     }
 }
 
-fn main() {
-    let mut input = io::large_buffer();
-    let mut line = io::buffer();
+fn main(rt: HostRuntime) {
+    let standard = Standard {
+        input: rt.stdin(),
+        output: rt.stdout(),
+        error: rt.stderr(),
+    };
+    let mut input = [0u8; 65536];
+    let mut line = [0u8; 4096];
     let mut states = [0u32; places::ALL];
-    let mut out = io::large_buffer();
-    run(&mut input, &mut line, &mut states, &mut out);
+    let mut out = [0u8; 65536];
+    run(standard, &mut input, &mut line, &mut states, &mut out);
 }

@@ -4,9 +4,17 @@
 
 ghost use Rattle.std.specs.Prelude.{◌-◌, ◌≤◌, length};
 
-use libc::{STDERR_FILENO, STDIN_FILENO, STDOUT_FILENO};
 use refusal::Refusal;
+use std::io::{Read, Stderr, Stdin, Stdout};
 use trace::{Begun, Course};
+
+// The three standard streams.
+#[derive(Clone, Copy)]
+struct Standard {
+    input: Stdin,
+    output: Stdout,
+    error: Stderr,
+}
 
 // What one read gave.
 #[derive(Clone, Copy)]
@@ -24,29 +32,30 @@ struct Stream {
     going: bool,
 }
 
-fn say(words: &[u8]) {
-    io::write_all(STDERR_FILENO, words);
+fn say(standard: Standard, words: &[u8]) {
+    let _ = standard.error.write_all(words);
 }
 
 // One read into the buffer from a place on: 0 bytes at the end of the input, or where there is no room.
-fn read_more(input: &mut [u8], to: usize) -> More
+fn read_more(stdin: Stdin, input: &mut [u8], to: usize) -> More
     ensures { result.n ≤ length input.old - to }
 {
     if input.len() <= to {
         return More { n: 0, ok: true };
     }
-    let part = &mut input[to..];
-    let got = libc::read(STDIN_FILENO, part);
-    let n = io::count(got, part);
-    More { n, ok: got >= 0 }
+    let mut from = stdin;
+    match from.read(&mut input[to..]) {
+        Ok(n) => More { n, ok: true },
+        Err(_) => More { n: 0, ok: false },
+    }
 }
 
 // Reads until the start of the file is there or the input ends.
-fn gather(input: &mut [u8]) -> More {
+fn gather(stdin: Stdin, input: &mut [u8]) -> More {
     let enough = trace::start_bytes();
     let mut to = 0;
     while to < enough {
-        let m = read_more(input, to);
+        let m = read_more(stdin, input, to);
         if !m.ok {
             return More { n: 0, ok: false };
         }
@@ -59,20 +68,20 @@ fn gather(input: &mut [u8]) -> More {
 }
 
 // Writes the first bytes of out.
-fn write(out: &[u8], n: usize, fd: i32) -> bool {
+fn write<P: Print>(stream: &P, out: &[u8], n: usize) -> bool {
     if out.len() < n {
         return false;
     }
-    io::write_all(fd, &out[..n])
+    stream.write_all(&out[..n]).is_ok()
 }
 
 // Writes the last line, if there is one. It is said on standard error too, where it is the reason.
-fn last(out: &[u8], n: usize) {
-    if write(out, n, STDOUT_FILENO) {
-        write(out, n, STDERR_FILENO);
+fn last(standard: Standard, out: &[u8], n: usize) {
+    if write(&standard.output, out, n) {
+        write(&standard.error, out, n);
         return;
     }
-    say(b"write failed\n");
+    say(standard, b"write failed\n");
 }
 
 fn stopped(course: Course) -> Stream {
@@ -104,31 +113,37 @@ fn to_front(input: &mut [u8], from: usize, to: usize) -> usize
 }
 
 // The end of the input, or bytes too many: the last line is what these say.
-fn close(course: Course, input: &[u8], to: usize, out: &mut [u8]) -> Stream {
+fn close(standard: Standard, course: Course, input: &[u8], to: usize, out: &mut [u8]) -> Stream {
     if input.len() < to {
         return stopped(course);
     }
     let n = trace::end(course, &input[..to], out);
-    last(out, n);
+    last(standard, out, n);
     stopped(course)
 }
 
 // No whole row is left in the buffer: more is read, unless bytes too many are there already.
-fn refill(course: Course, kept: usize, input: &mut [u8], out: &mut [u8]) -> Stream
+fn refill(
+    standard: Standard,
+    course: Course,
+    kept: usize,
+    input: &mut [u8],
+    out: &mut [u8],
+) -> Stream
     requires { kept ≤ length input.old }
 {
     if course.left == 0 {
         if 0 < kept {
-            return close(course, input, kept, out);
+            return close(standard, course, input, kept, out);
         }
     }
-    let m = read_more(input, kept);
+    let m = read_more(standard.input, input, kept);
     if !m.ok {
-        say(b"read failed\n");
+        say(standard, b"read failed\n");
         return stopped(course);
     }
     if m.n == 0 {
-        return close(course, input, kept, out);
+        return close(standard, course, input, kept, out);
     }
     Stream {
         course,
@@ -139,18 +154,25 @@ fn refill(course: Course, kept: usize, input: &mut [u8], out: &mut [u8]) -> Stre
 }
 
 // A refused row: the lines before it, and then its refusal's.
-fn refused(course: Course, why: Refusal, written: usize, out: &mut [u8]) -> Stream {
-    if write(out, written, STDOUT_FILENO) {
+fn refused(
+    standard: Standard,
+    course: Course,
+    why: Refusal,
+    written: usize,
+    out: &mut [u8],
+) -> Stream {
+    if write(&standard.output, out, written) {
         let n = trace::refused_line(why, out);
-        last(out, n);
+        last(standard, out, n);
         return stopped(course);
     }
-    say(b"write failed\n");
+    say(standard, b"write failed\n");
     stopped(course)
 }
 
 // As many rows as can be taken, or, where there are none, the next read.
 fn turn(
+    standard: Standard,
     s: Stream,
     input: &mut [u8],
     cells: &mut [f32],
@@ -169,13 +191,13 @@ fn turn(
     let course = went.course;
     let why = went.refusal;
     if !why.passes() {
-        return refused(course, why, went.written, out);
+        return refused(standard, course, why, went.written, out);
     }
     if went.rows == 0 {
         let kept = to_front(input, from, to);
-        return refill(course, kept, input, out);
+        return refill(standard, course, kept, input, out);
     }
-    if write(out, went.written, STDOUT_FILENO) {
+    if write(&standard.output, out, went.written) {
         return Stream {
             course,
             from: moved(from, went.taken, to),
@@ -183,7 +205,7 @@ fn turn(
             going: true,
         };
     }
-    say(b"write failed\n");
+    say(standard, b"write failed\n");
     stopped(course)
 }
 
@@ -208,6 +230,7 @@ fn turns(left: usize) -> u64 {
 }
 
 fn go(
+    standard: Standard,
     begun: Begun,
     to: usize,
     input: &mut [u8],
@@ -224,13 +247,20 @@ fn go(
     };
     let mut left = turns(course.left);
     while 0 < left && s.going {
-        s = turn(s, input, cells, values, out);
+        s = turn(standard, s, input, cells, values, out);
         left -= 1;
     }
 }
 
 // The start of the file decides whether there are rows at all.
-fn begin(to: usize, input: &mut [u8], cells: &mut [f32], values: &mut [f32], out: &mut [u8]) {
+fn begin(
+    standard: Standard,
+    to: usize,
+    input: &mut [u8],
+    cells: &mut [f32],
+    values: &mut [f32],
+    out: &mut [u8],
+) {
     if input.len() < to {
         return;
     }
@@ -238,26 +268,37 @@ fn begin(to: usize, input: &mut [u8], cells: &mut [f32], values: &mut [f32], out
     let why = begun.refusal;
     if !why.passes() {
         let n = trace::refused_line(why, out);
-        last(out, n);
+        last(standard, out, n);
         return;
     }
-    go(begun, to, input, cells, values, out);
+    go(standard, begun, to, input, cells, values, out);
 }
 
-fn run(input: &mut [u8], cells: &mut [f32], values: &mut [f32], out: &mut [u8]) {
-    let m = gather(input);
+fn run(
+    standard: Standard,
+    input: &mut [u8],
+    cells: &mut [f32],
+    values: &mut [f32],
+    out: &mut [u8],
+) {
+    let m = gather(standard.input, input);
     if m.ok {
-        begin(m.n, input, cells, values, out);
+        begin(standard, m.n, input, cells, values, out);
         return;
     }
-    say(b"read failed\n");
+    say(standard, b"read failed\n");
 }
 
-fn main() {
-    let mut input = io::large_buffer();
+fn main(rt: HostRuntime) {
+    let standard = Standard {
+        input: rt.stdin(),
+        output: rt.stdout(),
+        error: rt.stderr(),
+    };
+    let mut input = [0u8; 65536];
     // 7280 values, 910 rows of eight lanes: `out` holds their words, 9 bytes each, with 16 bytes over. Three cells a value.
     let mut cells = [0.0f32; 21840];
     let mut values = [0.0f32; 7280];
-    let mut out = io::large_buffer();
-    run(&mut input, &mut cells, &mut values, &mut out);
+    let mut out = [0u8; 65536];
+    run(standard, &mut input, &mut cells, &mut values, &mut out);
 }

@@ -4,7 +4,7 @@
 
 ghost use Rattle.std.specs.Prelude.{◌<◌};
 
-use libc::{STDIN_FILENO, STDOUT_FILENO};
+use std::io::{Read, Stdin, Stdout};
 
 // The bytes of a file's length.
 const HEAD: usize = 4;
@@ -26,62 +26,62 @@ fn length(s: &[u8]) -> usize {
 }
 
 // Writes the first bytes of out, and a line after them.
-fn write(out: &[u8], n: usize) -> bool {
+fn write(stdout: Stdout, out: &[u8], n: usize) -> bool {
     if out.len() < n {
         return false;
     }
-    if io::write_all(STDOUT_FILENO, &out[..n]) {
-        return io::write_all(STDOUT_FILENO, b"--\n");
+    if stdout.write_all(&out[..n]).is_ok() {
+        return stdout.write_all(b"--\n").is_ok();
     }
     false
 }
 
 // Replays the file that the first n bytes are.
-fn answer(input: &[u8], n: usize, out: &mut [u8]) -> bool {
+fn answer(stdout: Stdout, input: &[u8], n: usize, out: &mut [u8]) -> bool {
     if input.len() < n {
         return false;
     }
     let r = trace::replay(&input[..n], out);
     if r.whole {
-        return write(out, r.need);
+        return write(stdout, out, r.need);
     }
     false
 }
 
-fn read(input: &mut [u8], n: usize) -> usize {
+// Reads so many bytes. Answers whether they were all there.
+fn read(stdin: Stdin, input: &mut [u8], n: usize) -> bool {
     if input.len() < n {
-        return 0;
+        return false;
     }
-    io::read_full(STDIN_FILENO, &mut input[..n])
+    let mut from = stdin;
+    from.read_exact(&mut input[..n]).is_ok()
 }
 
 // One file. Answers whether there may be more.
-fn turn(head: &mut [u8], input: &mut [u8], out: &mut [u8]) -> bool {
-    let got = read(head, HEAD);
-    if got < HEAD {
+fn turn(stdin: Stdin, stdout: Stdout, head: &mut [u8], input: &mut [u8], out: &mut [u8]) -> bool {
+    if !read(stdin, head, HEAD) {
         return false;
     }
     let n = length(head);
-    let have = read(input, n);
-    if have == n {
-        return answer(input, n, out);
+    if read(stdin, input, n) {
+        return answer(stdout, input, n, out);
     }
     false
 }
 
 // A proved loop has to end, and nothing says that the input does: so the files are counted down, from a number that no run uses up.
-fn run(head: &mut [u8], input: &mut [u8], out: &mut [u8]) {
+fn run(stdin: Stdin, stdout: Stdout, head: &mut [u8], input: &mut [u8], out: &mut [u8]) {
     let mut left = u64::MAX;
     let mut going = true;
     while 0 < left && going {
-        going = turn(head, input, out);
+        going = turn(stdin, stdout, head, input, out);
         left -= 1;
     }
 }
 
-fn main() {
+fn main(rt: HostRuntime) {
     let mut head = [0u8; HEAD];
-    let mut input = io::large_buffer();
-    let mut out = io::large_buffer();
-    run(&mut head, &mut input, &mut out);
+    let mut input = [0u8; 65536];
+    let mut out = [0u8; 65536];
+    run(rt.stdin(), rt.stdout(), &mut head, &mut input, &mut out);
 }

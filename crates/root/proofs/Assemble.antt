@@ -2,7 +2,7 @@
 use mathlib.Core.Path.{◌≡◌, sym, ap, ◌∙◌, subst}
 use mathlib.Core.Logic.{inl, inr}
 use Prim.Native.Nat.{ℕ, zero, suc, ◌+◌, ◌-◌, ◌*◌, ◌/◌, ◌%◌, ◌^◌, ◌≤◌, ◌<◌}
-use native.Mathlib.Nat.{le_trans, le_of_eq, eq-or-lt_of_le, mul-le-mul, mul-le-mul_right, mul-lt-mul_of_pos_right, mul_comm, mul_assoc, mul-add, add-mul, mul-pos, mul-mul-mul_comm, pow-suc, add_comm}
+use native.Mathlib.Nat.{le_trans, le_of_eq, eq-or-lt_of_le, mul-le-mul, mul-le-mul_right, mul-lt-mul_of_pos_right, mul_comm, mul_assoc, mul-pos, mul-mul-mul_comm, pow-suc, add_comm}
 use native.Mathlib.Omega.{arith}
 use native.Mathlib.Decide.{dec_le, ℕ_discrete}
 use lib.Pow.{pow_pos, pow-add, field, mod-mod-pow}

@@ -97,9 +97,17 @@ above-plain m e (fin true q f) n d h k = true≢false (sym h)
 above-plain m e (fin false q f) n d h k = tt
 
 pub between-plain : (x z y : Float) → T (unsigned_finite x) → T (unsigned_finite y) → lt x z ≡ true → lt z y ≡ true → T (unsigned_finite z)
+between-plain nan z y p q h k = absurd p
+between-plain (inf s) z y p q h k = absurd p
+between-plain (fin true m e) z y p q h k = absurd p
+between-plain (fin false m e) z nan p q h k = absurd q
+between-plain (fin false m e) z (inf s) p q h k = absurd q
+between-plain (fin false m e) z (fin true n d) p q h k = absurd q
 between-plain (fin false m e) z (fin false n d) p q h k = above-plain m e z n d h k
 
 pub value-plain : (x : Float) (a c : ℕ) → HasValue x false a c → T (unsigned_finite x)
+value-plain nan a c p = absurd p
+value-plain (inf s) a c p = absurd p
 value-plain (fin true m e) a c p = true≢false p.0
 value-plain (fin false m e) a c p = tt
 

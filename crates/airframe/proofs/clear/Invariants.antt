@@ -1,9 +1,7 @@
 use Rattle.airframe.specs.Airframe.{zeros}
-use Rattle.airframe.specs.AirframeLaws.{zero_more, all_zeros}
-use lib.ListN.{take, length-set, length}
-use mathlib.Core.Path.{◌≡◌, refl}
+use lib.ListN.{take, length}
+use mathlib.Core.Path.{◌≡◌}
 use Prim.Native.Nat.{◌≤◌, ◌-◌}
-use native.Mathlib.Omega.{arith}
 use Rattle.airframe.proofs.clear.Given as goal
 
 abbrev pub invariant-loop-i : goal.invariant-loop-i

@@ -1,4 +1,3 @@
-use borrow.Author.Rules.{rules}
 use Rattle.airframe.specs.Airframe.{dev_quad_motor_setup}
 use Rattle.airframe.proofs.dev_quad_motor_setup.Goals as goal
 

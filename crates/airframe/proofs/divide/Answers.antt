@@ -5,10 +5,9 @@ use Rattle.airframe.specs.declared.PerRow.{PerRow}
 use lib.Ieee.{Float}
 use lib.ListN.{take, set, length-set, length, drop}
 use mathlib.Core.List.{List, ◌∷◌, ◌++◌}
-use mathlib.Core.Path.{◌≡◌, refl, ap}
+use mathlib.Core.Path.{◌≡◌, ap}
 use Prim.Native.Nat.{ℕ, ◌≤◌, ◌-◌, ◌+◌, ◌*◌}
 use native.Mathlib.Omega.{arith}
-use borrow.Author.Rules.{rules}
 use Rattle.airframe.proofs.divide.Goals as goal
 
 -- four numbers more are in their place
@@ -22,61 +21,20 @@ put_entries l at s a m b e rest ms whole h p q r n i =
     four_more l at f.roll f.pitch f.yaw f.thrust (entries s rest) whole h (rw n at i))
 
 -- while a motor is left, there is room for its four numbers
-room : (c : tie.After-divided invariant-loop decreases-loop) → c.before.before.before.before.loop.at + 4 ≤ length c.before.before.before.before.loop.out
-room c =
-    let l = c.before.before.before.before in
-    omega (arith, l.loop.invariant.2, one_less l.before.before.before.args.motors.now l.loop.i c.before.before.before.loop-test.true)
-
-pub loop-i-init : goal.loop-i-init
-loop-i-init c = (omega arith, refl, omega arith, refl)
-
-pub overflow_sub-motors : goal.overflow_sub-motors
-overflow_sub-motors c = omega arith
-
-pub read_motor-requires : goal.read_motor-requires
-read_motor-requires c = omega arith
-
-pub offset_bounds-out-at : goal.offset_bounds-out-at
-offset_bounds-out-at c = omega (arith, room c)
+room : (run out : List Float) (i at : ℕ) → length out ≡ at + 4 * length (motors_of (drop i run)) → 3 ≤ length run - i → at + 4 ≤ length out
+room run out i at e h = omega (arith, one_less run i h)
 
 pub bounds-out-at : goal.bounds-out-at
-bounds-out-at c = omega (arith, room c)
-
-pub overflow_add-out : goal.overflow_add-out
-overflow_add-out c = omega (arith, room c)
-
-pub offset_bounds-out-at-in-loop-i : goal.offset_bounds-out-at-in-loop-i
-offset_bounds-out-at-in-loop-i c = omega (arith, room c)
+bounds-out-at c = omega (arith, room c.args.motors.now c.loop-i.out c.loop-i.i c.loop-i.at c.loop-i.invariant.2 c.loop-i-test.true)
 
 pub bounds-out-at-in-loop-i : goal.bounds-out-at-in-loop-i
-bounds-out-at-in-loop-i c = simp length-set (omega (arith, room c))
-
-pub overflow_add-out-in-loop-i : goal.overflow_add-out-in-loop-i
-overflow_add-out-in-loop-i c = omega (arith, room c)
-
-pub offset_bounds-out-at-in-loop-i-2 : goal.offset_bounds-out-at-in-loop-i-2
-offset_bounds-out-at-in-loop-i-2 c = omega (arith, room c)
+bounds-out-at-in-loop-i c = simp length-set (omega (arith, room c.args.motors.now c.loop-i.out c.loop-i.i c.loop-i.at c.loop-i.invariant.2 c.loop-i-test.true))
 
 pub bounds-out-at-in-loop-i-2 : goal.bounds-out-at-in-loop-i-2
-bounds-out-at-in-loop-i-2 c = simp length-set (omega (arith, room c))
-
-pub overflow_add-out-in-loop-i-2 : goal.overflow_add-out-in-loop-i-2
-overflow_add-out-in-loop-i-2 c = omega (arith, room c)
-
-pub offset_bounds-out-at-in-loop-i-3 : goal.offset_bounds-out-at-in-loop-i-3
-offset_bounds-out-at-in-loop-i-3 c = omega (arith, room c)
+bounds-out-at-in-loop-i-2 c = simp length-set (omega (arith, room c.args.motors.now c.loop-i.out c.loop-i.i c.loop-i.at c.loop-i.invariant.2 c.loop-i-test.true))
 
 pub bounds-out-at-in-loop-i-3 : goal.bounds-out-at-in-loop-i-3
-bounds-out-at-in-loop-i-3 c = simp length-set (omega (arith, room c))
-
-pub overflow_add-i : goal.overflow_add-i
-overflow_add-i c = omega arith
-
-pub overflow_add-at : goal.overflow_add-at
-overflow_add-at c = omega (arith, room c)
-
-pub loop-i-smaller : goal.loop-i-smaller
-loop-i-smaller c = omega arith
+bounds-out-at-in-loop-i-3 c = simp length-set (omega (arith, room c.args.motors.now c.loop-i.out c.loop-i.i c.loop-i.at c.loop-i.invariant.2 c.loop-i-test.true))
 
 pub loop-i-preserved : goal.loop-i-preserved
 loop-i-preserved c =
@@ -85,11 +43,8 @@ loop-i-preserved c =
       omega arith,
       simp length-set c.loop-i.invariant.1,
       simp length-set (omega (arith, c.loop-i.invariant.2, one_less run c.loop-i.i c.loop-i-test.true)),
-      put_entries c.loop-i.out c.loop-i.at _ _ _ _ _ _ _ _ (omega (arith, room c)) c.read_motor.ensures c.column.ensures c.divided-e.ensures next c.loop-i.invariant.3,
+      put_entries c.loop-i.out c.loop-i.at _ _ _ _ _ _ _ _ (omega (arith, room c.args.motors.now c.loop-i.out c.loop-i.i c.loop-i.at c.loop-i.invariant.2 c.loop-i-test.true)) c.read_motor.ensures c.column.ensures c.divided-e.ensures next c.loop-i.invariant.3,
     )
-
-pub shape_of-out : goal.shape_of-out
-shape_of-out c = c.loop-i.invariant.1
 
 pub returns : goal.returns
 unfolding entries

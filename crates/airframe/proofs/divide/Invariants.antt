@@ -1,14 +1,8 @@
-use Rattle.airframe.specs.AirframeLaws.{one_less, motors_on, motors_end, four_more, all_written}
-use Rattle.airframe.specs.Airframe.{motors_of, column, divided, four, entries}
-use Rattle.airframe.specs.declared.Motor.{Motor}
-use Rattle.airframe.specs.declared.PerRow.{PerRow}
-use lib.Ieee.{Float}
-use lib.ListN.{take, set, length-set, length, drop}
-use mathlib.Core.List.{List, ◌∷◌, ◌++◌}
-use mathlib.Core.Path.{◌≡◌, refl, ap}
-use Prim.Native.Nat.{ℕ, ◌≤◌, ◌-◌, ◌+◌, ◌*◌}
-use native.Mathlib.Omega.{arith}
-use borrow.Author.Rules.{rules}
+use Rattle.airframe.specs.Airframe.{motors_of, entries}
+use lib.ListN.{take, length, drop}
+use mathlib.Core.List.{◌++◌}
+use mathlib.Core.Path.{◌≡◌}
+use Prim.Native.Nat.{◌≤◌, ◌-◌, ◌+◌, ◌*◌}
 use Rattle.airframe.proofs.divide.Given as goal
 
 abbrev pub invariant-loop-i : goal.invariant-loop-i

@@ -1,7 +1,5 @@
 use mathlib.Core.Bool.{Bool, true, false, ◌&&◌}
-use borrow.Author.Tests.{not-true, not-false}
 use mathlib.Core.Path.{◌≡◌, sym, ◌∙◌}
-use borrow.Author.Rules.{rules}
 use Rattle.airframe.specs.Airframe.{good_sums}
 use Rattle.airframe.proofs.good_sums.Goals as goal
 

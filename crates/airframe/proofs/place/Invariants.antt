@@ -1,12 +1,8 @@
-use lib.ListN.{set, take, length-set, length, drop}
-use lib.Ieee.{Float}
-use Rattle.airframe.specs.declared.Motor.{Motor}
-use Rattle.airframe.specs.AirframeLaws.{all_written, frame_on, frame_end, three_more}
+use lib.ListN.{take, length, drop}
 use Rattle.airframe.specs.Airframe.{flat, frame, rows_from}
-use mathlib.Core.List.{List, ◌∷◌, ◌++◌}
-use mathlib.Core.Path.{◌≡◌, refl, ap}
-use Prim.Native.Nat.{ℕ, ◌≤◌, ◌-◌, ◌+◌, ◌*◌}
-use native.Mathlib.Omega.{arith}
+use mathlib.Core.List.{◌++◌}
+use mathlib.Core.Path.{◌≡◌}
+use Prim.Native.Nat.{◌≤◌, ◌-◌, ◌*◌}
 use Rattle.airframe.proofs.place.Given as goal
 
 abbrev pub invariant-loop-m : goal.invariant-loop-m

@@ -9,7 +9,6 @@ use Rattle.float.specs.F32.{◌/f◌}
 use mathlib.Core.Path.{◌≡◌, refl}
 use Prim.Native.Nat.{ℕ, ◌≤◌, ◌+◌, ◌*◌}
 use lib.ListN.{length}
-use borrow.Author.Rules.{rules}
 use Rattle.airframe.proofs.quad.Goals as goal
 
 -- four motors take sixteen numbers

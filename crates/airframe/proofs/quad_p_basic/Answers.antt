@@ -1,4 +1,3 @@
-use borrow.Author.Rules.{rules}
 use Rattle.airframe.specs.Airframe.{call_quad_p_basic}
 use Rattle.airframe.proofs.quad_p_basic.Goals as goal
 

@@ -1,4 +1,3 @@
-use borrow.Author.Rules.{rules}
 use Rattle.airframe.specs.Airframe.{call_quad_x_basic}
 use Rattle.airframe.proofs.quad_x_basic.Goals as goal
 

@@ -1,13 +1,10 @@
-use Rattle.airframe.specs.Airframe.{motors_of, column, add_squares, sums, sums_of}
+use Rattle.airframe.specs.Airframe.{column, add_squares, sums, sums_of}
 use Rattle.airframe.specs.AirframeLaws.{motors_on, motors_end}
 use Rattle.airframe.specs.declared.Motor.{Motor}
 use Rattle.airframe.specs.declared.PerRow.{PerRow}
 use mathlib.Core.List.{List, [], ◌∷◌}
 use mathlib.Core.Path.{◌≡◌, refl}
-use Prim.Native.Nat.{◌≤◌, ◌-◌}
 use native.Mathlib.Omega.{arith}
-use lib.ListN.{length, drop}
-use borrow.Author.Rules.{rules}
 use Rattle.airframe.proofs.row_sums.Goals as goal
 
 -- the sum of all is the sum of the motors that are left, added to what was summed
@@ -23,18 +20,6 @@ module _ (s whole : PerRow) (ms : List Motor) where
 pub loop-i-init : goal.loop-i-init
 unfolding sums_of
 loop-i-init c = (omega arith, refl)
-
-pub overflow_sub-motors : goal.overflow_sub-motors
-overflow_sub-motors c = omega arith
-
-pub read_motor-requires : goal.read_motor-requires
-read_motor-requires c = omega arith
-
-pub overflow_add-i : goal.overflow_add-i
-overflow_add-i c = omega arith
-
-pub loop-i-smaller : goal.loop-i-smaller
-loop-i-smaller c = omega arith
 
 pub loop-i-preserved : goal.loop-i-preserved
 loop-i-preserved c = (omega arith, turn _ _ _ _ _ _ _ _ c.read_motor.ensures c.column.ensures c.add_squares-s.ensures (motors_on c.args.motors.now c.loop-i.i c.loop-i-test.true) c.loop-i.invariant.1)

@@ -1,13 +1,7 @@
-use Rattle.airframe.specs.Airframe.{motors_of, column, add_squares, sums, sums_of}
-use Rattle.airframe.specs.AirframeLaws.{motors_on, motors_end}
-use Rattle.airframe.specs.declared.Motor.{Motor}
-use Rattle.airframe.specs.declared.PerRow.{PerRow}
-use mathlib.Core.List.{List, [], ◌∷◌}
-use mathlib.Core.Path.{◌≡◌, refl}
+use Rattle.airframe.specs.Airframe.{motors_of, sums, sums_of}
+use mathlib.Core.Path.{◌≡◌}
 use Prim.Native.Nat.{◌≤◌, ◌-◌}
-use native.Mathlib.Omega.{arith}
 use lib.ListN.{length, drop}
-use borrow.Author.Rules.{rules}
 use Rattle.airframe.proofs.row_sums.Given as goal
 
 abbrev pub invariant-loop-i : goal.invariant-loop-i

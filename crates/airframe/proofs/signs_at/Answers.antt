@@ -1,6 +1,5 @@
 use Rattle.airframe.specs.Airframe.{table, signs_at}
 use mathlib.Core.Path.{refl}
-use borrow.Author.Rules.{rules}
 use Rattle.airframe.proofs.signs_at.Goals as goal
 
 pub returns : goal.returns

@@ -1,5 +1,4 @@
 use mathlib.Core.Path.{ap}
-use borrow.Author.Rules.{rules}
 use Rattle.motor_lin.specs.declared.Commanded.{Commanded}
 use Rattle.bench_root.specs.Callers.{command_for}
 use Rattle.bench_root.proofs.plumradek_force_to_command.Goals as goal

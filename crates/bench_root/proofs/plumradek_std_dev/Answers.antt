@@ -1,5 +1,4 @@
 use mathlib.Core.Path.{ap}
-use borrow.Author.Rules.{rules}
 use Rattle.statistics.specs.declared.StdDev.{StdDev}
 use Rattle.bench_root.specs.Callers.{deviation_of}
 use Rattle.bench_root.proofs.plumradek_std_dev.Goals as goal

@@ -1,4 +1,3 @@
-use borrow.Author.Rules.{rules}
 use Rattle.motor_lin.specs.MotorLin.{command_of}
 use Rattle.motor_lin.proofs.command_of.Goals as goal
 

@@ -1,4 +1,3 @@
-use borrow.Author.Rules.{rules}
 use Rattle.motor_lin.specs.MotorLin.{thrust_of}
 use Rattle.motor_lin.proofs.thrust_of.Goals as goal
 

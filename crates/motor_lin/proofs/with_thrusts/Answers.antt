@@ -1,4 +1,3 @@
-use borrow.Author.Rules.{rules}
 use Rattle.motor_lin.specs.MotorLin.{new_motor_lin}
 use Rattle.motor_lin.proofs.with_thrusts.Goals as goal
 

@@ -1,12 +1,7 @@
 use mathlib.Core.Path.{sym}
 use native.Mathlib.Omega.{arith}
-use borrow.Author.Rules.{rules}
 use Rattle.root.specs.NearLaws.{one_more, near, too_low, too_high}
-use Rattle.root.proofs.Assemble.{small_square}
 use Rattle.root.proofs.is_near.Goals as goal
-
-pub overflow_mul-square : goal.overflow_mul-square
-overflow_mul-square c = omega (arith, small_square c.args.g (omega arith))
 
 pub returns-then-square-n : goal.returns-then-square-n
 returns-then-square-n c = sym (too_low c.args.n c.args.g c.if-square-n.true)

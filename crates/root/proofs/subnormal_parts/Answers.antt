@@ -1,9 +1,6 @@
 use native.Mathlib.Omega.{arith}
-use Rattle.root.proofs.Small.{held, no_nan, high, small_parts}
+use Rattle.root.proofs.Small.{no_nan, high, small_parts}
 use Rattle.root.proofs.subnormal_parts.Goals as goal
-
-pub int_to_float-result : goal.int_to_float-result
-int_to_float-result c = held c.args.b c.requires.0 c.requires.1
 
 pub float_to_bits-result : goal.float_to_bits-result
 float_to_bits-result c = no_nan c.args.b c.requires.0 c.requires.1

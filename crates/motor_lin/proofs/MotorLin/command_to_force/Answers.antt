@@ -1,4 +1,3 @@
-use borrow.Author.Rules.{rules}
 use Rattle.motor_lin.specs.MotorLin.{call_command_to_force}
 use Rattle.motor_lin.proofs.MotorLin.command_to_force.Goals as goal
 

@@ -1,11 +1,10 @@
 use mathlib.Core.Path.{sym, ◌∙◌}
-use borrow.Author.Rules.{rules}
 use Rattle.lemmas.specs.Cases.{when_true, when_false}
-use Rattle.motor_lin.specs.MotorLin.{command_unless_bad, command}
+use Rattle.motor_lin.specs.MotorLin.{command_unless_bad}
 use Rattle.motor_lin.proofs.MotorLin.command_unless_bad.Goals as goal
 
 pub returns-then-bad : goal.returns-then-bad
-unfolding command_unless_bad command
+unfolding command_unless_bad
 returns-then-bad c = when_true _ _ _ (sym c.bad.ensures ∙ c.if-bad.true)
 
 pub returns : goal.returns

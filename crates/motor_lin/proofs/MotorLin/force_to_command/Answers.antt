@@ -1,4 +1,3 @@
-use borrow.Author.Rules.{rules}
 use Rattle.motor_lin.specs.MotorLin.{call_force_to_command}
 use Rattle.motor_lin.proofs.MotorLin.force_to_command.Goals as goal
 

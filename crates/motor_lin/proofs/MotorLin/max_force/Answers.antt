@@ -1,4 +1,3 @@
-use borrow.Author.Rules.{rules}
 use Rattle.motor_lin.specs.MotorLin.{call_max_force}
 use Rattle.motor_lin.proofs.MotorLin.max_force.Goals as goal
 

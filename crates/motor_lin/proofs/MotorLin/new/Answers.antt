@@ -1,7 +1,6 @@
 use Rattle.lemmas.specs.Cases.{when_true, when_false}
 use Rattle.motor_lin.specs.MotorLin.{call_new_motor_lin, bad_motor}
 use mathlib.Core.Path.{sym, ap, ◌∙◌}
-use borrow.Author.Rules.{rules}
 use Rattle.motor_lin.proofs.MotorLin.new.Goals as goal
 
 pub returns-then-bad : goal.returns-then-bad

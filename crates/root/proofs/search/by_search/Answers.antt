@@ -1,32 +1,29 @@
-use mathlib.Core.Path.{sym, ap, ◌∙◌, subst}
-use mathlib.Core.Bool.{not}
+use mathlib.Core.Path.{◌≡◌, sym, ap, ◌∙◌, subst}
+use mathlib.Core.Bool.{true, not}
 use lib.Dec.{T}
-use lib.Ieee.{binary32, fits, of_bits, to_bits, nan_bits}
+use lib.Ieee.{Float, binary32, fits, of_bits, to_bits, nan_bits}
 use Prim.Native.Nat.{ℕ}
 use Rattle.float.specs.FloatLaws.{nan_is}
 use Rattle.root.specs.Values.{no_sign, some_bits}
-use Rattle.root.proofs.Ties.{above_is_number, at_infinity, at_number, at_zero, neither, no_nan}
+use Rattle.root.proofs.Ties.{at_infinity, at_number, at_zero, neither, no_nan}
 use Rattle.root.proofs.search.by_search.Goals as goal
 
 -- what owning an `f32` tells: the format holds it
-held : (c : tie.Start) → T (fits binary32 c.args.x)
-held c = subst T (sym c.well-formed.0.1) tt
-
-pub float_to_bits-b : goal.float_to_bits-b
-float_to_bits-b c = above_is_number _ c.args.x c.if-x.true
+held : (x : Float) → fits binary32 x ≡ true → T (fits binary32 x)
+held x e = subst T (sym e) tt
 
 pub returns-then-b-eq2139095040 : goal.returns-then-b-eq2139095040
-returns-then-b-eq2139095040 c = at_infinity c.args.x (held c) c.if-b-eq2139095040.true
+returns-then-b-eq2139095040 c = at_infinity c.args.x (held _ c.well_formed.0.1) c.if-b-eq2139095040.true
 
 pub root_bits-requires : goal.root_bits-requires
 root_bits-requires c =
     let x = c.args.x in
-    (some_bits x (held c) c.if-x.true, no_sign x (held c) c.if-x.true)
+    (some_bits x (held _ c.well_formed.0.1) c.if-x.true, no_sign x (held _ c.well_formed.0.1) c.if-x.true)
 
 pub float_from_bits-result : goal.float_from_bits-result
 float_from_bits-result c =
     let x = c.args.x in
-    subst (λ (n : ℕ). T (not (nan_bits binary32 n))) (sym c.root_bits.ensures) (no_nan (to_bits binary32 x) (no_sign x (held c) c.if-x.true))
+    subst (λ (n : ℕ). T (not (nan_bits binary32 n))) (sym c.root_bits.ensures) (no_nan (to_bits binary32 x) (no_sign x (held _ c.well_formed.0.1) c.if-x.true))
 
 pub returns-then-x : goal.returns-then-x
 returns-then-x c = ap (of_bits binary32) c.root_bits.ensures ∙ at_number c.args.x c.if-x.true c.if-b-eq2139095040.false

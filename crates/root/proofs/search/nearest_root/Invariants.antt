@@ -1,8 +1,4 @@
-use mathlib.Core.Path.{◌≡◌}
-use Prim.Native.Nat.{◌+◌, ◌-◌, ◌*◌, ◌/◌, ◌^◌, ◌≤◌, ◌<◌}
-use native.Mathlib.Omega.{arith}
-use Rattle.root.specs.NearLaws.{one_more}
-use Rattle.root.proofs.Assemble.{small_square, is_rounded}
+use Prim.Native.Nat.{◌-◌, ◌*◌, ◌^◌, ◌≤◌, ◌<◌}
 use Rattle.root.proofs.search.nearest_root.Given as goal
 
 abbrev pub invariant-loop-lo : goal.invariant-loop-lo

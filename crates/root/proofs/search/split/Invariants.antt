@@ -1,8 +1,5 @@
-use mathlib.Core.Path.{◌≡◌, refl}
+use mathlib.Core.Path.{◌≡◌}
 use Prim.Native.Nat.{◌-◌, ◌*◌, ◌^◌, ◌≤◌, ◌<◌}
-use native.Mathlib.Omega.{arith}
-use Rattle.root.proofs.Assemble.{split-normal, some_left, one_step}
-use Rattle.root.specs.Patterns.{scaled_small}
 use Rattle.root.proofs.search.split.Given as goal
 
 abbrev pub invariant-loop-m : goal.invariant-loop-m

@@ -1,7 +1,6 @@
 use Rattle.statistics.specs.Statistics.{new_statistics}
 use Rattle.lemmas.specs.Cases.{when_true, when_false}
 use mathlib.Core.Path.{sym, ◌∙◌}
-use borrow.Author.Rules.{rules}
 use Rattle.statistics.specs.Statistics.{call_new_statistics}
 use Rattle.statistics.proofs.Statistics.new.Goals as goal
 

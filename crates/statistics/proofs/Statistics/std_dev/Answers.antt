@@ -1,6 +1,5 @@
 use Rattle.lemmas.specs.Cases.{when_true, when_false}
 use mathlib.Core.Path.{sym, ◌∙◌}
-use borrow.Author.Rules.{rules}
 use Rattle.statistics.specs.Statistics.{call_std_dev}
 use Rattle.statistics.proofs.Statistics.std_dev.Goals as goal
 
