@@ -7,7 +7,8 @@ use Rattle.float.specs.F32 as F
 use Rattle.float.specs.F32.{◌+f◌}
 use Rattle.filters.specs.declared.lowpass.Lowpass.{Lowpass}
 use Rattle.filters.specs.Lowpass.{new_lowpass, step_lowpass}
-use Rattle.filters.specs.LowpassLaws.{Passing, new_passing, sum-zero_off, passes}
+use Rattle.filters.specs.LowpassLaws.{Passing, new_passing, passes}
+use Rattle.filters.proofs.SwitchedOff.{sum-zero_off}
 use Rattle.refusal.specs.Refusal as RefusalSpecs
 use Rattle.refusal.specs.declared.Refusal.TheVariants as Refusal
 use Rattle.angle_pid.specs.declared.pid.Pid.{Pid}

@@ -5,4 +5,3 @@ pub mod SingleLaws
 pub mod Bank
 pub mod BankLaws
 pub mod BankRuns
-pub mod RunLaws

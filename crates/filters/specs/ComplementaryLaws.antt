@@ -8,9 +8,9 @@ use Rattle.float.specs.F32 as F
 use Rattle.float.specs.F32.{◌+f◌, ◌-f◌, ◌*f◌, ◌/f◌}
 use Rattle.float.specs.OperationLaws.{add_nan, nan_add, mul_nan, nonfinite_mul_zero, div-zero, nonfinite_mul, nonfinite_add, add_nonfinite}
 use Rattle.filters.specs.declared.complementary.Complementary.{Complementary}
-use Rattle.filters.specs.LowpassLaws.{Off, sum-zero_off, new_passing, set_dt_off, set_tau_off}
-use Rattle.filters.specs.Highpass.{highpass_of, new_highpass, set_dt_highpass, set_tau_highpass, step_highpass}
-use Rattle.filters.specs.Complementary.{new_complementary, set_dt_complementary, set_tau_complementary, step_complementary}
+use Rattle.filters.specs.LowpassLaws.{Off}
+use Rattle.filters.specs.Highpass.{highpass_of, new_highpass, step_highpass}
+use Rattle.filters.specs.Complementary.{new_complementary, step_complementary}
 
 -- the high pass has the Rust's formula, whatever tau and dt are
 pub highpass_alpha : (tau dt y x_prev : Float) → (highpass_of tau dt y x_prev).alpha ≡ tau /f (tau +f dt)
@@ -20,18 +20,6 @@ highpass_alpha tau dt y x_prev = refl
 -- what a sum of zero makes of it: its low pass is off, and its high pass has an alpha that is an infinity or NaN
 abbrev pub ZeroSum : Complementary → Type 0
 ZeroSum s = Off s.lp_filter × (finite s.hp_filter.alpha ≡ false)
-
-pub new_zero_sum : (tau dt : Float) → eq (tau +f dt) F.zero ≡ true → ZeroSum (new_complementary tau dt)
-unfolding new_complementary new_highpass highpass_of
-new_zero_sum tau dt h = ((new_passing tau dt (sum-zero_off tau dt F.zero h)).0, div-zero tau (tau +f dt) h)
-
-pub set_dt_zero_sum : (s : Complementary) (dt : Float) → eq (s.lp_filter.tau +f dt) F.zero ≡ true → eq (s.hp_filter.tau +f dt) F.zero ≡ true → ZeroSum (set_dt_complementary s dt)
-unfolding set_dt_complementary set_dt_highpass highpass_of
-set_dt_zero_sum s dt h k = ((set_dt_off s.lp_filter dt h).0, div-zero s.hp_filter.tau (s.hp_filter.tau +f dt) k)
-
-pub set_tau_zero_sum : (s : Complementary) (tau : Float) → eq (tau +f s.lp_filter.dt) F.zero ≡ true → eq (tau +f s.hp_filter.dt) F.zero ≡ true → ZeroSum (set_tau_complementary s tau)
-unfolding set_tau_complementary set_tau_highpass highpass_of
-set_tau_zero_sum s tau h k = ((set_tau_off s.lp_filter tau h).0, div-zero tau (tau +f s.hp_filter.dt) k)
 
 -- with such a high pass no answer is finite, and that stays so
 pub never_finite : (s : Complementary) (l h : Float) → finite s.hp_filter.alpha ≡ false

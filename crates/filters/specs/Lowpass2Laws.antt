@@ -15,7 +15,7 @@ use Rattle.float.specs.FloatLaws.{eq_self, zero_is, zeros_equal}
 use Rattle.filters.specs.declared.lowpass2.NthOrderLowpass.{NthOrderLowpass}
 use Rattle.filters.specs.Lowpass.{lowpass_of, set_dt_lowpass, set_tau_lowpass, step_lowpass}
 use Rattle.filters.specs.Lowpass2.{new_lowpass2, set_dt_lowpass2, configure_lowpass2, step_lowpass2}
-use Rattle.filters.specs.LowpassLaws.{Off, Passing, new_passing, set_dt_off, set_tau_off, passed, off_answers, off_leaves, nan_in, passed-same, passed-zero, answer_finite, goes_on, becomes_lost, stays_lost}
+use Rattle.filters.specs.LowpassLaws.{Off, Passing, new_passing, passed, off_answers, off_leaves, nan_in, passed-same, passed-zero, answer_finite, goes_on, becomes_lost, stays_lost}
 
 -- both stages are off
 abbrev pub Off2 : NthOrderLowpass → Type 0
@@ -33,16 +33,7 @@ pub new_passing2 : (tau dt : Float) → Off (lowpass_of tau dt F.zero) → Passi
 unfolding new_lowpass2
 new_passing2 tau dt off = (new_passing tau dt off, new_passing tau dt off)
 
--- the setters switch off each stage for itself
-pub set_dt_off2 : (s : NthOrderLowpass) (dt : Float) → eq (s.first.tau +f dt) F.zero ≡ true → eq (s.second.tau +f dt) F.zero ≡ true → Off2 (set_dt_lowpass2 s dt)
-unfolding set_dt_lowpass2
-set_dt_off2 s dt h k = ((set_dt_off s.first dt h).0, (set_dt_off s.second dt k).0)
-
-pub configure_off2 : (s : NthOrderLowpass) (tau : Float) → eq (tau +f s.first.dt) F.zero ≡ true → eq (tau +f s.second.dt) F.zero ≡ true → Off2 (configure_lowpass2 s tau)
-unfolding configure_lowpass2
-configure_off2 s tau h k = ((set_tau_off s.first tau h).0, (set_tau_off s.second tau k).0)
-
--- and keep both last answers, so switching off heals neither
+-- the setters keep both last answers, so switching off heals neither
 pub set_dt_keeps2 : (s : NthOrderLowpass) (dt : Float) → ((set_dt_lowpass2 s dt).first.y ≡ s.first.y) × ((set_dt_lowpass2 s dt).second.y ≡ s.second.y)
 unfolding set_dt_lowpass2 set_dt_lowpass lowpass_of
 set_dt_keeps2 s dt = (refl, refl)

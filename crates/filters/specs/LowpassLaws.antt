@@ -1,6 +1,6 @@
--- Laws of a low pass that is switched off: tau + dt is zero (request W4), or tau alone is. Which coefficients it then has, what it answers
--- and what it leaves. An input x `fits` where binary32 holds it, as it holds every f32. Assumes nothing.
-use Rattle.std.specs.Prelude.{◌≡◌, refl, Bool, true, false, cond, ◌&&◌, zero, suc, T, pos, Float}
+-- Laws of a low pass that is switched off: what it answers and what it leaves. Where tau and dt switch one off is proved beside
+-- (proofs/SwitchedOff). An input x `fits` where binary32 holds it, as it holds every f32. Assumes nothing.
+use Rattle.std.specs.Prelude.{◌≡◌, refl, Bool, true, false, ◌&&◌, zero, suc, T, pos, Float}
 use Rattle.std.proofs.Common.{sym, ap, ◌∙◌, true≢false}
 use Rattle.std.specs.Float.Ieee as Ieee
 use Rattle.std.specs.Float.{nan, inf, fin, binary32}
@@ -11,65 +11,15 @@ use Rattle.float.specs.F32 as F
 use Rattle.float.specs.F32.{◌+f◌, ◌-f◌, ◌*f◌, ◌/f◌}
 use Rattle.float.specs.Float.{negative}
 use Rattle.float.specs.FloatLaws.{eq_self, zero_is, zero_equals, zeros_equal, zero-fits}
-use Rattle.float.specs.OperationLaws.{add_nan, nan_add, mul_nan, one-mul, zero-mul, zero_mul_nonfinite, add-zero, zero-add, zeros_add, opposite_add, self_div}
+use Rattle.float.specs.OperationLaws.{add_nan, nan_add, mul_nan, one-mul, zero-mul, zero_mul_nonfinite, add-zero, zeros_add}
 use Rattle.filters.specs.declared.lowpass.Lowpass.{Lowpass}
-use Rattle.filters.specs.Lowpass.{alpha0_of, lowpass_of, new_lowpass, set_dt_lowpass, set_tau_lowpass, step_lowpass}
+use Rattle.filters.specs.Lowpass.{lowpass_of, new_lowpass, step_lowpass}
 
--- ---- which filters are off
+-- ---- filters that are off
 
 -- alpha0 = 1 and alpha1 = +0
 abbrev pub Off : Lowpass → Type 0
 Off s = (s.alpha0 ≡ F.one) × (s.alpha1 ≡ F.zero)
-
-one_less_one : F.one -f F.one ≡ F.zero
-unfolding Ieee.sub Ieee.add Ieee.neg of_bits
-one_less_one = refl
-
-alpha_one_off : (tau dt y : Float) → alpha0_of tau dt ≡ F.one → Off (lowpass_of tau dt y)
-unfolding lowpass_of
-alpha_one_off tau dt y h = (h, ap (λ (a : Float). F.one -f a) h ∙ one_less_one)
-
--- where tau + dt is zero, of either sign
-pub alpha0_sum_zero : (tau dt : Float) → eq (tau +f dt) F.zero ≡ true → alpha0_of tau dt ≡ F.one
-unfolding alpha0_of
-alpha0_sum_zero tau dt h = simp h
-
-pub sum-zero_off : (tau dt y : Float) → eq (tau +f dt) F.zero ≡ true → Off (lowpass_of tau dt y)
-sum-zero_off tau dt y h = alpha_one_off tau dt y (alpha0_sum_zero tau dt h)
-
--- as it is where tau is the opposite of a finite dt
-pub opposite_off : (dt y : Float) → finite dt ≡ true → Off (lowpass_of (Ieee.neg dt) dt y)
-unfolding of_bits
-opposite_off dt y h = sum-zero_off (Ieee.neg dt) dt y (ap (λ (x : Float). eq x F.zero) (opposite_add dt h) ∙ zero_equals false (pos 0))
-
--- everywhere else the coefficients are the Rust's
-pub alpha0_sum_not_zero : (tau dt : Float) → eq (tau +f dt) F.zero ≡ false → alpha0_of tau dt ≡ dt /f (tau +f dt)
-unfolding alpha0_of
-alpha0_sum_not_zero tau dt h = simp h
-
-pub sum_not_zero : (tau dt y : Float) → eq (tau +f dt) F.zero ≡ false
-    → ((lowpass_of tau dt y).alpha0 ≡ dt /f (tau +f dt)) × ((lowpass_of tau dt y).alpha1 ≡ F.one -f dt /f (tau +f dt))
-unfolding lowpass_of
-sum_not_zero tau dt y h =
-    let a = alpha0_sum_not_zero tau dt h in
-    (a, ap (λ (x : Float). F.one -f x) a)
-
--- where tau is zero, a filter is off with every finite dt: with zero by the rule, with every other since dt/dt is 1
-alpha_of_zero_tau : (s : Bool) (dt : Float) → T (fits binary32 dt) → finite dt ≡ true → alpha0_of (fin s 0 (pos 0)) dt ≡ F.one
-unfolding alpha0_of
-alpha_of_zero_tau s nan g k = absurd (true≢false (sym k))
-alpha_of_zero_tau s (inf t) g k = absurd (true≢false (sym k))
-alpha_of_zero_tau s (fin t zero d) g k = rw (zero-fits t d (is_true _ g), zeros_add s t, zero_equals (s && t) (pos 0)) refl
-alpha_of_zero_tau s (fin t (suc n) d) g k = rw (zero-add t s n d g, self_div t n d) (either (eq (fin t (suc n) d) F.zero))
-  where
-    either : (b : Bool) → cond b F.one F.one ≡ F.one
-    either true = refl
-    either false = refl
-
-pub tau_zero_off : (tau dt y : Float) → T (fits binary32 tau) → T (fits binary32 dt) → eq tau F.zero ≡ true → finite dt ≡ true → Off (lowpass_of tau dt y)
-tau_zero_off tau dt y f g h k =
-    let z = zero_is tau (is_true _ f) h in
-    alpha_one_off tau dt y (ap (λ (t : Float). alpha0_of t dt) z.1 ∙ alpha_of_zero_tau z.0 dt g k)
 
 -- ---- what a filter that is off answers to x, where its last answer was y
 
@@ -164,21 +114,7 @@ pub new_passing : (tau dt : Float) → Off (lowpass_of tau dt F.zero) → Passin
 unfolding new_lowpass lowpass_of of_bits
 new_passing tau dt off = (off, refl)
 
--- the setters keep the last answer, so switching a filter off does not heal one that has NaN in it
-pub set_dt_off : (s : Lowpass) (dt : Float) → eq (s.tau +f dt) F.zero ≡ true → Off (set_dt_lowpass s dt) × ((set_dt_lowpass s dt).y ≡ s.y)
-unfolding set_dt_lowpass lowpass_of
-set_dt_off s dt h = (sum-zero_off s.tau dt s.y h, refl)
-
-pub set_tau_off : (s : Lowpass) (tau : Float) → eq (tau +f s.dt) F.zero ≡ true → Off (set_tau_lowpass s tau) × ((set_tau_lowpass s tau).y ≡ s.y)
-unfolding set_tau_lowpass lowpass_of
-set_tau_off s tau h = (sum-zero_off tau s.dt s.y h, refl)
-
--- whatever it was: after both setters, in either order, it is the filter for that tau and dt that last gave what it gave
-pub set_both : (s : Lowpass) (tau dt : Float) → (set_dt_lowpass (set_tau_lowpass s tau) dt ≡ lowpass_of tau dt s.y) × (set_tau_lowpass (set_dt_lowpass s dt) tau ≡ lowpass_of tau dt s.y)
-unfolding set_dt_lowpass set_tau_lowpass lowpass_of
-set_both s tau dt = (refl, refl)
-
--- and an update leaves all but the last answer, so that the setters find tau and dt as they were
+-- an update leaves all but the last answer, so that the setters find tau and dt as they were
 pub step_keeps : (s : Lowpass) (x : Float) → (step_lowpass s x).filter ≡ record { tau = s.tau; dt = s.dt; y = (step_lowpass s x).y; alpha0 = s.alpha0; alpha1 = s.alpha1 }
 unfolding step_lowpass
 step_keeps s x = refl

@@ -75,12 +75,3 @@ pub nan_prints : (s : List ℕ) (m L q r : ℕ) → passes (call_start s).refusa
 unfolding controller_at
 nan_prints s m L q r a t l o h e =
     column_theorem s m L r a t l h ∙ ap word_of (values_nan (cell_kind_of s) (lanes_of s) L m q r _ (bytes_after_start s) o e)
-
--- in `<i2` by the hole's bytes: those of that cell, after the start, stand for 0x8000
-hole_cell : (kind : Kind) (k : ℕ) (bytes : List ℕ) (q c : ℕ) → kind ≡ I2 → low_first (take 2 (drop ((q * k + c) * 2) bytes)) ≡ 0x8000 → cell_at kind k bytes q c ≡ nan
-unfolding cell_at
-hole_cell kind k bytes q c e h = rw e (i2-hole (drop ((q * k + c) * 2) bytes) h)
-
-pub hole_prints : (s : List ℕ) (m L q r : ℕ) → passes (call_start s).refusal ≡ true → CanTake m (call_start s).course (bytes_after_start s) → L < lanes_of s → q ≤ r → r < m
-    → cell_kind_of s ≡ I2 → low_first (take 2 (drop ((q * (lanes_of s * 3) + (L * 3 + 1)) * 2) (bytes_after_start s))) ≡ 0x8000 → printed_word s L r ≡ word_of nan
-hole_prints s m L q r a t l o h k e = nan_prints s m L q r a t l o h (hole_cell (cell_kind_of s) (lanes_of s * 3) (bytes_after_start s) q (L * 3 + 1) k e)

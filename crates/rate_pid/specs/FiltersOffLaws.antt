@@ -13,8 +13,9 @@ use Rattle.float.specs.Float.{abs_f}
 use Rattle.float.specs.FloatLaws.{zero_is, zero_equals}
 use Rattle.float.specs.OperationLaws.{zero_times, div-zero, nonfinite_mul, add_nonfinite}
 use Rattle.filters.specs.Lowpass2.{set_dt_lowpass2}
-use Rattle.filters.specs.LowpassLaws.{Passing, new_passing, sum-zero_off, tau_zero_off, passed, off_answers}
-use Rattle.filters.specs.Lowpass2Laws.{Off2, Passing2, Lost2, new_passing2, set_dt_off2, passes2, goes_on2, becomes_lost2, stays_lost2}
+use Rattle.filters.specs.LowpassLaws.{Passing, new_passing, passed, off_answers}
+use Rattle.filters.specs.Lowpass2Laws.{Off2, Passing2, Lost2, new_passing2, passes2, goes_on2, becomes_lost2, stays_lost2}
+use Rattle.filters.proofs.SwitchedOff.{sum-zero_off, tau_zero_off, set_dt_off2}
 use Rattle.rate_pid.specs.declared.RatePid.{RatePid}
 use Rattle.rate_pid.specs.RatePid.{ten, filtered_of, d_gain_of, meas_derivative_of, damped_of, damping_of, terms_of, step_rate_pid, total_of, new_rate_pid, set_ts_rate_pid, bad_rate_pid, guarded, call_set_ts_rate_pid, call_update_rate_pid}
 use Rattle.rate_pid.specs.RatePidLaws.{update_accepted}

@@ -1,5 +1,5 @@
 use mathlib.Core.Path.{sym}
-use Rattle.filters.specs.LowpassLaws.{alpha0_sum_zero, alpha0_sum_not_zero}
+use Rattle.filters.proofs.SwitchedOff.{alpha0_sum_zero, alpha0_sum_not_zero}
 use Rattle.filters.proofs.lowpass.alpha0.Goals as goal
 
 pub returns-then-sum : goal.returns-then-sum

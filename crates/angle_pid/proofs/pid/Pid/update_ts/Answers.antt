@@ -1,5 +1,5 @@
 use Rattle.refusal.specs.Refusal.{passes}
-use Rattle.angle_pid.specs.PidLaws.{after-refused, after-settled, update_bad, update_good}
+use Rattle.angle_pid.proofs.PidLaws.{after-refused, after-settled, update_bad, update_good}
 use mathlib.Core.Path.{sym, ap, ◌∙◌}
 use Rattle.angle_pid.proofs.pid.Pid.update_ts.Goals as goal
 

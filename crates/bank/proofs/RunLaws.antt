@@ -13,7 +13,7 @@ use Rattle.bank.specs.LaneLaws.{BoundedLane, closed_bounded, lane_bounded}
 use Rattle.bank.specs.Single.{Single, none, single_machine, single_run, single_after}
 use Rattle.bank.specs.SingleLaws.{lane_of, Good, step_same}
 use Rattle.bank.specs.Bank.{fresh_bank, Eight, lane_at, call_bank}
-use Rattle.bank.specs.BankLaws.{fresh_eight, fresh_closed, step_eight, named, others}
+use Rattle.bank.proofs.BankLaws.{fresh_eight, fresh_closed, step_eight, named, others}
 use Rattle.bank.specs.BankRuns.{bank_machine, run, after, lane_machine, lane_run, lane_after}
 
 -- a run leaves eight lanes

@@ -1,0 +1,2 @@
+-- Laws of the controller.
+pub mod PidLaws
