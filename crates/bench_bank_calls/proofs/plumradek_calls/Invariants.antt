@@ -1,7 +1,5 @@
-use Rattle.bench_updates.specs.Updates.{start, turn, ended}
-use Rattle.bench_bank_calls.specs.Calls.{BankRun, bank_after, bank_out_after, call_in_turn}
+use Rattle.bench_bank_calls.specs.Calls.{BankRun}
 use Prim.Native.Nat.{◌-◌}
-use native.Mathlib.Omega.{arith}
 use Rattle.bench_bank_calls.proofs.plumradek_calls.Given as goal
 
 abbrev pub invariant-loop-i : goal.invariant-loop-i

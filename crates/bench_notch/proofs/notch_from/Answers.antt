@@ -1,4 +1,3 @@
-use borrow.Author.Rules.{rules}
 use Rattle.bench_notch.specs.OneNotch.{notch_from}
 use Rattle.bench_notch.proofs.notch_from.Goals as goal
 

@@ -1,4 +1,3 @@
-use borrow.Author.Rules.{rules}
 use Rattle.bench_notch.specs.OneNotch.{notches_from}
 use Rattle.bench_notch.proofs.notches_from.Goals as goal
 

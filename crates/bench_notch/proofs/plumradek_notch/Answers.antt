@@ -1,4 +1,3 @@
-use borrow.Author.Rules.{rules}
 use borrow.Author.Tests.{lt-ltb, le-ltb}
 use Rattle.bench_notch.specs.OneNotch.{notch_out}
 use Rattle.bench_notch.proofs.plumradek_notch.Goals as goal

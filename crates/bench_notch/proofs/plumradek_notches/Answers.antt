@@ -1,4 +1,3 @@
-use borrow.Author.Rules.{rules}
 use Rattle.bench_notch.proofs.plumradek_notches.Goals as goal
 
 pub returns : goal.returns

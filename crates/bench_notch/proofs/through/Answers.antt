@@ -1,11 +1,7 @@
 use mathlib.Core.Path.{ap}
-use Prim.Native.Nat.{◌-◌}
 use native.Mathlib.Omega.{arith}
-use lib.ListN.{length}
-use borrow.Author.Rules.{rules}
 use Rattle.notch.specs.declared.notch_filter.NotchFiltered.{NotchFiltered}
-use Rattle.lanes.specs.WrittenRun.{Writing, write_start, write-turn, write_all}
-use Rattle.notch.specs.NotchFilter.{notch_machine}
+use Rattle.lanes.specs.WrittenRun.{write_start, write-turn, write_all}
 use Rattle.bench_notch.proofs.through.Goals as goal
 
 pub loop-i-init : goal.loop-i-init

@@ -1,10 +1,6 @@
-use mathlib.Core.Path.{ap}
 use Prim.Native.Nat.{◌-◌}
-use native.Mathlib.Omega.{arith}
 use lib.ListN.{length}
-use borrow.Author.Rules.{rules}
-use Rattle.notch.specs.declared.notch_filter.NotchFiltered.{NotchFiltered}
-use Rattle.lanes.specs.WrittenRun.{Writing, write_start, write-turn, write_all}
+use Rattle.lanes.specs.WrittenRun.{Writing}
 use Rattle.notch.specs.NotchFilter.{notch_machine}
 use Rattle.bench_notch.proofs.through.Given as goal
 

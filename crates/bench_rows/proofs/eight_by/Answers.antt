@@ -1,5 +1,4 @@
 use Rattle.bench_rows.specs.Eight.{all_open}
-use borrow.Author.Rules.{rules}
 use Rattle.bench_rows.proofs.eight_by.Goals as goal
 
 pub returns : goal.returns

@@ -1,6 +1,5 @@
 use Rattle.bench_rows.specs.Eight.{limit_of}
 use mathlib.Core.Path.{sym, ◌∙◌}
-use borrow.Author.Rules.{rules}
 use Rattle.bench_rows.proofs.limit_of.Goals as goal
 
 pub returns-then-is_nan : goal.returns-then-is_nan

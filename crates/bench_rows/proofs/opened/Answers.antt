@@ -1,5 +1,4 @@
 use Rattle.bench_rows.specs.Eight.{opens}
-use borrow.Author.Rules.{rules}
 use Rattle.bench_rows.proofs.opened.Goals as goal
 
 pub returns : goal.returns

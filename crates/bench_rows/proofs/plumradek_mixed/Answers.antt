@@ -1,6 +1,5 @@
 use Rattle.rows.specs.declared.Made.{Made}
 use mathlib.Core.Path.{ap}
-use borrow.Author.Rules.{rules}
 use Rattle.bench_rows.proofs.plumradek_mixed.Goals as goal
 
 pub returns : goal.returns

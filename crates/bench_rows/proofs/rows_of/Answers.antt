@@ -1,4 +1,3 @@
-use borrow.Author.Rules.{rules}
 use Rattle.bench_rows.proofs.rows_of.Goals as goal
 
 pub returns : goal.returns

@@ -1,5 +1,4 @@
 use Rattle.bench_updates.specs.Updates.{new_of}
-use borrow.Author.Rules.{rules}
 use Rattle.bench_updates.proofs.new.Goals as goal
 
 pub returns : goal.returns

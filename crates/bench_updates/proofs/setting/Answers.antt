@@ -2,7 +2,6 @@ use lib.ListN.{get_or-eq_default}
 use lib.Ieee.{nan}
 use mathlib.Core.Path.{sym, ◌∙◌}
 use Rattle.float.specs.FloatLaws.{nan_is}
-use borrow.Author.Rules.{rules}
 use Rattle.bench_updates.proofs.setting.Goals as goal
 
 pub returns-else-i-s : goal.returns-else-i-s

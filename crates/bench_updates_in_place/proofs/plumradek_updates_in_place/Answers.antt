@@ -1,5 +1,4 @@
-use Rattle.bench_updates.specs.Updates.{PidRun, start, turn, ended, pid_after, out_after, update_at}
-use Prim.Native.Nat.{◌-◌}
+use Rattle.bench_updates.specs.Updates.{start, turn, ended, pid_after, out_after, update_at}
 use native.Mathlib.Omega.{arith}
 use Rattle.bench_updates_in_place.proofs.plumradek_updates_in_place.Goals as goal
 

@@ -1,6 +1,5 @@
-use Rattle.bench_updates.specs.Updates.{PidRun, start, turn, ended, pid_after, out_after, update_at}
+use Rattle.bench_updates.specs.Updates.{PidRun}
 use Prim.Native.Nat.{◌-◌}
-use native.Mathlib.Omega.{arith}
 use Rattle.bench_updates_in_place.proofs.plumradek_updates_in_place.Given as goal
 
 abbrev pub invariant-loop-i : goal.invariant-loop-i

@@ -1,6 +1,5 @@
 use lib.Seq.{length-take-le}
 use mathlib.Core.Path.{sym}
-use borrow.Author.Rules.{rules}
 use Rattle.calls_words.proofs.begins.Goals as goal
 
 pub slice_bounds-same-end : goal.slice_bounds-same-end

@@ -1,6 +1,4 @@
-use Prim.Native.Nat.{◌≤◌, ◌-◌}
 use native.Mathlib.Omega.{arith}
-use lib.ListN.{length}
 use Rattle.calls_words.proofs.same.Goals as goal
 
 pub returns-then-name-w : goal.returns-then-name-w

@@ -1,6 +1,4 @@
 use Prim.Native.Nat.{◌≤◌, ◌-◌}
-use native.Mathlib.Omega.{arith}
-use borrow.Author.Rules.{rules}
 use Rattle.calls_bank.proofs.lanes.bank_at.Given as goal
 
 abbrev pub invariant-loop-i : goal.invariant-loop-i
