@@ -8,7 +8,8 @@
 # Exit statuses: 0 accepted; 3 refused; 2 wrong usage; 1 a read or a write failed, the reader left early, or the program could not be built or
 # started or was ended from outside.
 #
-# A program stands in target/bin/NAME, and beside it in NAME.made-from what it was made from:
+# rt leaves a program in crates/NAME/out/NAME. The commands run a copy of it, build/bin/NAME, which no rt sets aside or writes over while they run;
+# beside it stands in NAME.made-from what it was made from:
 #   sources SUM     what was proved (sum_of_sources)
 #   program SUM     of the program itself, so that another one in its place is recognised
 #   kit WORDS       what proved and built it (present_kit)
@@ -51,7 +52,7 @@ is_open() { # DESCRIPTOR
 }
 
 # Starts a program in the place of the shell that calls this. Programs are for x86-64: on another machine the kit's emulator runs them, with the
-# kit's loader and C library, as rt does.
+# kit's loader and C library, where the kit has one.
 start_program() { # PROGRAM
     machine=$(uname -m)
     if [ "$machine" != x86_64 ]; then
@@ -83,8 +84,8 @@ how_it_ended() { # STATUS WORDS
 
 # ---- What a program is made from
 
-# Prints the line `NAME: DEP DEP` of each crate that a crate rests on, and its own, in the order in which rt proves them: level by level, a
-# crate's level being one above the highest of the crates that it uses.
+# Prints the line `NAME: DEP DEP` of each crate that a crate rests on, and its own, in an order in which they can be proved: level by level, a
+# crate's level being one above the highest of the crates that it uses. What crates.txt says between a crate's name and its colon comes last.
 crates_of() { # NAME
     NAME=$1 awk '
         function level_of(crate,    used, n, i, own) {
@@ -97,26 +98,27 @@ crates_of() { # NAME
             return level[crate] = own
         }
         { sub(/#.*/, ""); colon = index($0, ":") }
-        colon { name = substr($0, 1, colon - 1); gsub(/[ \t]/, "", name); uses[name] = substr($0, colon + 1) }
+        colon { name = $1; sub(/:.*/, "", name); uses[name] = substr($0, colon + 1); kind[name] = substr($0, 1, colon - 1); sub(/^[ \t]*[^ \t]+/, "", kind[name]) }
         END {
             top = level_of(ENVIRON["NAME"])
             for (now = 0; now <= top; now++)
                 for (i = 1; i <= count; i++)
-                    if (level[found[i]] == now) print found[i] ":" uses[found[i]]
+                    if (level[found[i]] == now) print found[i] ":" uses[found[i]] kind[found[i]]
         }' "$here/crates.txt"
 }
 
-# Prints the sum of all that rt holds a program to: of each crate that it rests on the line of crates.txt and the files. It is the same on
-# every machine.
+# Prints the sum of all that rt holds a program to: of each crate that it rests on the line of crates.txt and the files, and HANDLES, where there is
+# one. It is the same on every machine.
 sum_of_sources() { # NAME
     (
         export LC_ALL=C
         cd "$here" || exit 1
         crates_of "$1" | {
             set --
+            [ ! -e HANDLES ] || set -- HANDLES
             while IFS= read -r line; do
                 printf '%s\n' "$line"
-                for part in src specs proofs stdin stdout args data; do
+                for part in src specs proofs stdin stdout args status data; do
                     path=crates/${line%%:*}/$part
                     [ ! -e "$path" ] || set -- "$@" "$path"
                 done
@@ -157,7 +159,7 @@ present_commit() {
 # Reads what is recorded of a program. All is empty where nothing is.
 read_record() { # NAME
     made_sources='' made_program='' made_kit='' made_commit=''
-    [ -r "$here/target/bin/$1.made-from" ] || return 0
+    [ -r "$here/build/bin/$1.made-from" ] || return 0
     while read -r key words; do
         case $key in
         sources) made_sources=$words ;;
@@ -165,26 +167,30 @@ read_record() { # NAME
         kit) made_kit=$words ;;
         commit) made_commit=$words ;;
         esac
-    done <"$here/target/bin/$1.made-from"
+    done <"$here/build/bin/$1.made-from"
 }
 
-# Records a program that rt has just made, where the sources are still those of this sum, which was taken before it began. A record is there whole
-# or not at all.
+# Takes over a program that rt has just made, and records it, where the sources are still those of this sum, which was taken before rt began. Both
+# are there whole or not at all.
 record_program() { # NAME SUM
+    made=$here/crates/$1/out/$1 record=$here/build/bin/$1.made-from
     [ "$(sum_of_sources "$1")" = "$2" ] || fail 'the sources changed while they were proved: call it again'
-    record=$here/target/bin/$1.made-from
+    [ -f "$made" ] || fail "rt has left no program crates/$1/out/$1"
+    mkdir -p "$here/build/bin" || exit 1
+    # A program that runs is not written into: another one takes its name.
+    cp "$made" "$here/build/bin/$1.new" || fail "cannot write build/bin/$1.new"
     {
         echo "sources $2"
-        echo "program $(sum_of_file "$here/target/bin/$1")"
+        echo "program $(sum_of_file "$here/build/bin/$1.new")"
         echo "kit $(present_kit)"
         echo "commit $(present_commit)"
     } >"$record.new" || fail "cannot write $record.new"
-    mv "$record.new" "$record" || exit 1
+    mv "$here/build/bin/$1.new" "$here/build/bin/$1" && mv "$record.new" "$record" || exit 1
 }
 
 # Puts into `wrong` why a program cannot be taken for that of the present sources, and nothing where it can.
 look_at_program() { # NAME
-    program=$here/target/bin/$1 wrong=''
+    program=$here/build/bin/$1 wrong=''
     read_record "$1"
     present_sources=$(sum_of_sources "$1")
     [ -n "$present_sources" ] || fail "the sources of $1 cannot be summed up (awk, find, sort and sha256sum are wanted)"
@@ -218,7 +224,7 @@ make_sure_of_program() { # NAME
 # Builds a program, one run at a time: two would write over each other's files. The system gives the lock back whenever its holder ends, so none
 # is left behind. (flock is in util-linux, with the setpriv that rt calls; without it there is no lock.)
 build_program() { # NAME
-    mkdir -p "$here/target/bin" "$here/target/log" || return 1
+    mkdir -p "$here/build/log" || return 1
     (
         if command -v flock >/dev/null && ! flock -n 9; then
             say 'another run is building it: waiting for that'
@@ -226,49 +232,46 @@ build_program() { # NAME
         fi
         look_at_program "$1"
         [ -z "$wrong" ] || prove_and_build "$1"
-    ) 9>"$here/target/commands.lock"
+    ) 9>"$here/build/commands.lock"
 }
 
-# Has rt prove and build a program anew, and records what it was made from.
+# Has rt prove and build a program over the crates that it rests on, the lowest first, and records what it was made from. What did not change since
+# rt proved it here is not proved again. Says at which crate of how many it is: in one line that moves on a terminal, elsewhere in a line for each
+# crate that rt had something to say of, since it says nothing of a library that is built already.
 prove_and_build() { # NAME
-    say "$wrong: it is proved and built first, which can take minutes (rt check $1)"
-    log=$here/target/log/$1.command
-    # Without its stamp rt builds a program even where it was proved before: that one may not be the one that lies there now.
-    rm -f "$here/target/stamp/$1"
-    {
-        (cd "$here" && rt check "$1" </dev/null 2>&1)
-        echo "rt ended with $?"
-    } | tee "$log" | show_progress "$1" || {
-        cat "$log" >&2
-        fail 'it could not be built'
-    }
-    record_program "$1" "$present_sources"
+    say "$wrong: it is proved and built first, which can take minutes (rt run in crates/$1)"
+    log=$here/build/log/$1.command name=$1
+    # shellcheck disable=SC2046
+    set -- $(crates_of "$1" | cut -d : -f 1)
+    crates=$# number=0
+    : >"$log" || fail "cannot write $log"
+    for crate; do
+        number=$((number + 1))
+        show_crate "proving crate $number of $crates, $crate"
+        if ! said=$(prove_crate "$crate" "$name" 2>&1); then
+            show_crate ''
+            printf '%s\n' "$said" >>"$log"
+            cat "$log" >&2
+            fail "it could not be built: crates/$crate"
+        fi
+        [ -z "$said" ] || {
+            printf '%s\n' "$said" >>"$log"
+            [ -t 2 ] || say "crate $number of $crates: $crate proved"
+        }
+    done
+    show_crate ''
+    record_program "$name" "$present_sources"
     say 'proved and built'
 }
 
-# Reads what rt prints, and says at which crate of how many it is: in one line that moves on a terminal, elsewhere in a line for each crate that was
-# proved anew. Ends as rt did.
-show_progress() { # NAME
-    # shellcheck disable=SC2046
-    set -- $(crates_of "$1" | cut -d : -f 1)
-    crates=$# proved=0 status=1
-    show_crate "proving crate 1 of $crates, $1"
-    while IFS= read -r line; do
-        case $line in
-        'rt: '*' proved ('*)
-            proved=$((proved + 1))
-            [ -t 2 ] || case $line in
-            *unchanged*) ;;
-            *) say "crate $proved of $crates: ${line#rt: }" ;;
-            esac
-            [ $# -eq 0 ] || shift
-            [ $# -eq 0 ] || show_crate "proving crate $((proved + 1)) of $crates, $1"
-            ;;
-        'rt ended with '*) status=${line##* } ;;
-        esac
-    done
-    show_crate ''
-    return "$status"
+# Has rt prove one crate: of the libraries below a program the library, of the program itself the program, which is then run on no input.
+prove_crate() { # NAME PROGRAM
+    cd "$here/crates/$1" || return 1
+    if [ "$1" = "$2" ]; then
+        rt run </dev/null
+    else
+        rt lib </dev/null
+    fi
 }
 
 # Writes over the line of a terminal.

@@ -1,6 +1,6 @@
 """Draws docs/notches.png: a made-up vibration at one frequency, before and after three notches in a row, by the program `calls`.
 
-Run from the repository's top, with NumPy and matplotlib (Debian: python3-numpy, python3-matplotlib), after `rt check calls`:
+Run from the repository's top, with NumPy and matplotlib (Debian: python3-numpy, python3-matplotlib), after `oracle/ours calls`:
     /usr/bin/python3 examples/draw_notches.py
 """
 
@@ -33,7 +33,7 @@ def notched(samples, most):
     settings = [n for centre in CENTRES for n in (centre, BANDWIDTH, DT, tangent(centre))]
     runs = [samples[i : i + most] for i in range(0, len(samples), most)]
     lines = ["notches.new" + words(settings)] + ["notches.run %08x" % len(run) + words(run) for run in runs]
-    text = subprocess.run(["target/bin/calls"], input="\n".join(lines), check=True, capture_output=True, text=True).stdout
+    text = subprocess.run(["build/bin/calls"], input="\n".join(lines), check=True, capture_output=True, text=True).stdout
     bits = [int(word, 16) for line in text.splitlines()[1:] for word in line.split()[1:]]
     return np.array(bits, dtype="<u4").view("<f4")
 

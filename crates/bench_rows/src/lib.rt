@@ -1,4 +1,4 @@
-// Runs of rows of 1, 2, 4 and 8 lanes for C and Rust to link: the benchmarks call them.
+// Runs of rows of 1, 2, 4 and 8 lanes for the benchmarks. C and Rust link them through `bench_rows_c`, which exports them.
 #![tactic(auto)]
 
 ghost use Rattle.std.specs.Prelude.{◌≡◌, ◌≤◌, length};

@@ -1,4 +1,4 @@
-// Functions for C and Rust to link (`rt staticlib bench_updates`): the comparison over all patterns and the benchmarks call them.
+// Runs of updates for the benchmarks. C and Rust link them through `bench_updates_c`, which exports them.
 #![tactic(auto)]
 
 ghost use Rattle.std.specs.Prelude.{◌≡◌, length, get_or};
