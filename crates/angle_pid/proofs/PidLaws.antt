@@ -19,15 +19,12 @@ use Rattle.angle_pid.specs.declared.lp_filter.Tau.{Tau}
 use Rattle.angle_pid.specs.declared.lp_filter.LpFilter.{LpFilter}
 use Rattle.angle_pid.specs.declared.pid.Pid.{Pid}
 use Rattle.angle_pid.specs.declared.pid.PidConfig.{PidConfig}
-use Rattle.angle_pid.specs.declared.pid.PidChanged.{PidChanged}
 use Rattle.angle_pid.specs.Range.{range_refusal, wrap_error, admits, limited}
 use Rattle.angle_pid.specs.LpFilter.{new_lp_filter, stored_tau, step_lp_filter}
 use Rattle.angle_pid.specs.Pid.{parts_refusal, pid_refusal, config_refusal, zero_pid, with_parts, with_config_pid, moved_integral, proportional, derivative, grown, next_integral, step_pid, unless_refused, call_with_config_pid, call_set_wrapping_pid, call_set_output_limit_pid, call_set_anti_windup_pid, call_set_lp_filter_pid, call_set_gains_pid, call_reset_integral_pid, call_reset_integral_to_pid, call_enable_integral_pid, call_enable_reset_integral_pid, updated_pid, after_wrap, call_update_ts_pid}
+use Rattle.angle_pid.specs.PidLaws.{LeavesPid, wrapped_error, SameParts}
 
 -- ---- a refused call leaves the state, and a refused constructor gives the all-zero one
-
-abbrev pub LeavesPid : Pid → PidChanged → Type 0
-LeavesPid s r = (r.refusal ≡ Refusal.None → ⊥) → r.pid ≡ s
 
 unless_refused-leaves : (why : Refusal) (s next : Pid) → LeavesPid s (unless_refused why s next)
 unfolding unless_refused
@@ -103,10 +100,6 @@ module _ (s : Pid) (error ts : Float) (good : pid_refusal s ≡ Refusal.None) wh
     update_beyond f = simp (good, on, wrap_by_beyond lt error min max (range_good s min max good on) f)
 
 -- ---- an accepted update is one step on the wrapped error
-
--- the error as it is wrapped: itself, where no wrapping is on, and else what the rule leads to
-abbrev pub wrapped_error : Pid → Float → Float
-wrapped_error s error = (wrap_error s.wrapping error).value
 
 pub wrapped_off : (s : Pid) (error : Float) → s.wrapping ≡ Range.Off → wrapped_error s error ≡ error
 unfolding wrap_error
@@ -196,18 +189,6 @@ step_tau : (f : LpFilter) (x : Float) → stored_tau (step_lp_filter f x).filter
 unfolding stored_tau step_lp_filter step_lowpass
 step_tau LpFilter.Off x = refl
 step_tau (LpFilter.On f) x = refl
-
--- what an update leaves of a state: the gains, ts, the switch, the ranges and the low pass's time constant
-pub record SameParts (s next : Pid) : Type 0 where
-  pub same_kp : next.kp ≡ s.kp
-  pub same_ki : next.ki ≡ s.ki
-  pub same_kd : next.kd ≡ s.kd
-  pub same_ts : next.ts ≡ s.ts
-  pub same_switch : next.integral_en ≡ s.integral_en
-  pub same_wrapping : next.wrapping ≡ s.wrapping
-  pub same_limit : next.output_limit ≡ s.output_limit
-  pub same_windup : next.anti_windup ≡ s.anti_windup
-  pub same_tau : stored_tau next.lp_filter ≡ stored_tau s.lp_filter
 
 same_itself : (s : Pid) → SameParts s s
 same_itself s =

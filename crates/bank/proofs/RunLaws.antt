@@ -15,6 +15,7 @@ use Rattle.bank.specs.SingleLaws.{lane_of, Good, step_same}
 use Rattle.bank.specs.Bank.{fresh_bank, Eight, lane_at, call_bank}
 use Rattle.bank.proofs.BankLaws.{fresh_eight, fresh_closed, step_eight, named, others}
 use Rattle.bank.specs.BankRuns.{bank_machine, run, after, lane_machine, lane_run, lane_after}
+use Rattle.bank.specs.RunLaws.{Lies}
 
 -- a run leaves eight lanes
 pub after_eight : (calls : List (For Op)) (b : Bank) → Eight b → Eight (after b calls)
@@ -31,12 +32,6 @@ single_follows =
 
 pub single_run_lem : (ops : List Op) (c : Single) → Good c → Followed lane_machine single_machine lane_of Good ops c
 single_run_lem = follow lane_machine single_machine lane_of Good single_follows
-
--- a controller lies in lane L of a bank
-pub record Lies (L : ℕ) (b : Bank) (c : Single) : Type 0 where
-  pub eight : Eight b
-  pub here : lane_at b L ≡ lane_of c
-  pub good : Good c
 
 module _ (L : ℕ) (low : L ≤ 7) where
   -- the bank's lanes do not see each other

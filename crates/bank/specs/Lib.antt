@@ -5,3 +5,4 @@ pub mod SingleLaws
 pub mod Bank
 pub mod BankLaws
 pub mod BankRuns
+pub mod RunLaws

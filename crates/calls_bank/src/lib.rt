@@ -1,7 +1,7 @@
 // The bank: crate bank. Functions by the count of operands make the call on the bank, and one keeps its lanes.
 #![tactic(auto)]
 
-mod lanes;
+mod bank_lanes;
 
 use bank::{Bank, Banked, SlewLimit};
 use calls_words::{CallAnswer, places};
@@ -26,12 +26,12 @@ pub fn answer_call(name: &[u8], ops: &[u32], states: &mut [u32], res: &mut [u32]
 fn answer_bank(name: &[u8], ops: &[u32], states: &mut [u32], res: &mut [u32]) -> CallAnswer {
     let lane = calls_words::word(ops, 0) as usize;
     if calls_words::is(name, b"bank.show", ops, 1) {
-        return lanes::show(states, lane, res);
+        return bank_lanes::show(states, lane, res);
     }
     if calls_words::is_with_bool(name, b"bank.state", ops, 1 + places::LANE_WORDS, 1) {
-        return lanes::set(states, lane, ops);
+        return bank_lanes::set(states, lane, ops);
     }
-    let t = on_bank(name, ops, lane, lanes::bank_at(states));
+    let t = on_bank(name, ops, lane, bank_lanes::bank_at(states));
     keep(name, t, states, res)
 }
 
@@ -39,8 +39,8 @@ fn answer_bank(name: &[u8], ops: &[u32], states: &mut [u32], res: &mut [u32]) ->
 fn keep(name: &[u8], t: BankAnswer, states: &mut [u32], res: &mut [u32]) -> CallAnswer {
     let bank = t.bank;
     let terms = t.terms;
-    lanes::put_bank(states, bank);
-    lanes::put_terms(res, terms);
+    bank_lanes::put_bank(states, bank);
+    bank_lanes::put_terms(res, terms);
     if calls_words::same(name, b"bank.update") {
         calls_words::put_number(res, 0, t.y);
     }

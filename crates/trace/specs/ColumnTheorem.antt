@@ -8,7 +8,7 @@ use Rattle.npy.specs.declared.reader.Kind.TheVariants.{F4}
 use Rattle.npy.specs.Header.{call_header}
 use Rattle.npy.specs.Lines.{word_of}
 use Rattle.bank.specs.declared.lane.Op.{Op}
-use Rattle.bank.proofs.RunLaws.{Lies}
+use Rattle.bank.specs.RunLaws.{Lies}
 use Rattle.trace.specs.Trace.{call_start, replay_of}
 use Rattle.trace.specs.Taken.{CanTake}
 use Rattle.trace.specs.AcceptedStart.{accepted_start, bytes_after_start}

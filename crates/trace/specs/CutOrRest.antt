@@ -19,7 +19,8 @@ use Rattle.bank.specs.Bank.{Eight}
 use Rattle.bank.specs.BankLaws.{update_refusal}
 use Rattle.bank.specs.BankRuns.{after}
 use Rattle.bank.specs.Single.{one}
-use Rattle.bank.proofs.RunLaws.{Lies, after_eight}
+use Rattle.bank.proofs.RunLaws.{after_eight}
+use Rattle.bank.specs.RunLaws.{Lies}
 use Rattle.rows.specs.Rows.{run_refusal}
 use Rattle.rows.specs.LaneByLaneLaws.{own_turn}
 use Rattle.rows.specs.ReadyLanes.{first_ready, first-kept}

@@ -13,7 +13,8 @@ use Rattle.bank.specs.declared.lane.Op.TheVariants.{Update}
 use Rattle.bank.specs.Bank.{fresh_bank}
 use Rattle.bank.specs.Single.{Single, none, one, opened_single, call_single, single_after}
 use Rattle.bank.specs.BankRuns.{after}
-use Rattle.bank.proofs.RunLaws.{Lies, lies_after, fresh_lies}
+use Rattle.bank.proofs.RunLaws.{lies_after, fresh_lies}
+use Rattle.bank.specs.RunLaws.{Lies}
 use Rattle.trace.specs.LanesInTurn.{in_turn, read_each, each-length, each_at, lane_of_each}
 use Rattle.trace.specs.Trace.{open_of, opened_bank, call_start}
 use Rattle.trace.specs.Taken.{update_of}

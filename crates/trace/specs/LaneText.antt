@@ -18,7 +18,8 @@ use Rattle.bank.specs.Lane.{plain}
 use Rattle.bank.specs.Bank.{call_bank}
 use Rattle.bank.specs.Single.{Single, call_single, single_run, single_after}
 use Rattle.bank.specs.BankRuns.{bank_machine, run, after}
-use Rattle.bank.proofs.RunLaws.{Lies, lies_run, lies_after}
+use Rattle.bank.proofs.RunLaws.{lies_run, lies_after}
+use Rattle.bank.specs.RunLaws.{Lies}
 use Rattle.rows.specs.Rows.{next_lane, update_calls, values_of}
 use Rattle.rows.specs.RowsLaws.{values_length}
 use Rattle.trace.specs.declared.course.Course.{Course}

@@ -1,5 +1,5 @@
 use Prim.Native.Nat.{◌≤◌, ◌-◌}
-use Rattle.calls_bank.proofs.lanes.bank_at.Given as goal
+use Rattle.calls_bank.proofs.bank_lanes.bank_at.Given as goal
 
 abbrev pub invariant-loop-i : goal.invariant-loop-i
 invariant-loop-i l = l.i ≤ 8

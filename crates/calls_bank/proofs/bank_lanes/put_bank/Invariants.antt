@@ -1,7 +1,7 @@
 use mathlib.Core.Path.{◌≡◌}
 use Prim.Native.Nat.{◌≤◌, ◌-◌}
 use lib.ListN.{length}
-use Rattle.calls_bank.proofs.lanes.put_bank.Given as goal
+use Rattle.calls_bank.proofs.bank_lanes.put_bank.Given as goal
 
 abbrev pub invariant-loop-i : goal.invariant-loop-i
 invariant-loop-i l = (l.i ≤ 8) × (length l.w ≡ length l.initial.w)
