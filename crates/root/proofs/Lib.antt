@@ -2,3 +2,5 @@
 mod Assemble
 mod Ties
 mod Small
+-- A theorem that other crates can cite.
+pub mod RootKeepsRule

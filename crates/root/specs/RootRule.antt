@@ -85,6 +85,32 @@ pub record NearestRoot (x y : Float) : Type 0 where
   pub not-less : (y_units + p_units) * (y_units + p_units) ≤ 4 * x_units * 2 ^ 149
   pub not_more : 4 * x_units * 2 ^ 149 ≤ (y_units + s_units) * (y_units + s_units)
 
+-- at a pattern b of x, whose root has the pattern `root_bits b`
+pub nearest_at : (b : ℕ) → 0 < b → b < 255 * 2 ^ 23 → NearestRoot (of_bits binary32 b) (of_bits binary32 (root_bits b))
+nearest_at b B h =
+    let y = root_bits b in
+    let below = y - 1 in
+    let above = y + 1 in
+    let r = is_root b B h in
+    let some : below < y = smaller below y r.p_below in
+    let far : y < 254 * 2 ^ 23 = root_finite b (omega arith) in
+    record {
+      p = of_bits binary32 below;
+      s = of_bits binary32 above;
+      p_below = neighbours below y (omega arith) (omega arith) (omega arith);
+      s_above = neighbours y above (omega arith) (omega arith) (omega arith);
+      x_units = scaled b;
+      y_units = scaled y;
+      p_units = scaled below;
+      s_units = scaled above;
+      x_value = r.x_value;
+      y_value = r.y_value;
+      p_value = r.p_value;
+      s_value = r.s_value;
+      not-less = r.not-less;
+      not_more = r.not_more;
+    }
+
 -- one number has one multiple
 same_units : (x : Float) (a b c : ℕ) → HasValue x false a c → HasValue x false b c → a ≡ b
 same_units nan a b c p q = absurd p
@@ -109,14 +135,14 @@ only_at b B h y R =
     sym Y.is ∙ ap (of_bits binary32) (rule_unique b v B (omega arith) least most)
 
 -- a pattern of a number above zero and below infinity, and one of its root
-record IsPositive (x : Float) : Type 0 where
-  bits : ℕ
-  some : 0 < bits
-  finite : bits < 255 * 2 ^ 23
-  x_is : of_bits binary32 bits ≡ x
-  root_is : of_bits binary32 (root_bits bits) ≡ root x
+pub record IsPositive (x : Float) : Type 0 where
+  pub bits : ℕ
+  pub some : 0 < bits
+  pub finite : bits < 255 * 2 ^ 23
+  pub x_is : of_bits binary32 bits ≡ x
+  pub root_is : of_bits binary32 (root_bits bits) ≡ root x
 
-is_positive : (x : Float) → T (fits binary32 x) → lt F.zero x ≡ true → lt x (inf false) ≡ true → IsPositive x
+pub is_positive : (x : Float) → T (fits binary32 x) → lt F.zero x ≡ true → lt x (inf false) ≡ true → IsPositive x
 unfolding lt of_bits root
 is_positive nan fit h k = absurd (true≢false (sym h))
 is_positive (inf true) fit h k = absurd (true≢false (sym h))
@@ -127,34 +153,6 @@ is_positive (fin false (suc m) e) fit h k =
     let x = fin false (suc m) e in
     record { bits = to_bits binary32 x; some = some_bits x fit h; finite = finite_bits m e fit; x_is = of_bits-to_bits binary32 x fit; root_is = refl }
 
--- The root of a binary32 above zero and below infinity keeps the rule, and nothing else does.
-pub root-keeps-rule : (x : Float) → T (fits binary32 x) → lt F.zero x ≡ true → lt x (inf false) ≡ true → NearestRoot x (root x)
-root-keeps-rule x fit h k =
-    let i = is_positive x fit h k in
-    let b = i.bits in
-    let y = root_bits b in
-    let below = y - 1 in
-    let above = y + 1 in
-    let r = is_root b i.some i.finite in
-    let some : below < y = smaller below y r.p_below in
-    let far : y < 254 * 2 ^ 23 = root_finite b (omega (arith, i.finite)) in
-    let at_patterns : NearestRoot (of_bits binary32 b) (of_bits binary32 y) = record {
-      p = of_bits binary32 below;
-      s = of_bits binary32 above;
-      p_below = neighbours below y (omega arith) (omega arith) (omega arith);
-      s_above = neighbours y above (omega arith) (omega arith) (omega arith);
-      x_units = scaled b;
-      y_units = scaled y;
-      p_units = scaled below;
-      s_units = scaled above;
-      x_value = r.x_value;
-      y_value = r.y_value;
-      p_value = r.p_value;
-      s_value = r.s_value;
-      not-less = r.not-less;
-      not_more = r.not_more;
-    } in
-    rw (← i.root_is) (subst (λ (z : Float). NearestRoot z (of_bits binary32 y)) i.x_is at_patterns)
-
+-- Only the root keeps the rule; that it does stands in proofs/RootKeepsRule.antt.
 pub only_root_keeps_rule : (x y : Float) → T (fits binary32 x) → lt F.zero x ≡ true → lt x (inf false) ≡ true → NearestRoot x y → y ≡ root x
 only_root_keeps_rule x y fit h k R = let i = is_positive x fit h k in only_at i.bits i.some i.finite y (subst (λ (z : Float). NearestRoot z y) (sym i.x_is) R) ∙ i.root_is
