@@ -74,8 +74,8 @@ how_it_ended() { # STATUS WORDS
         echo "ended from outside (status $1)"
     elif [ "$1" -ne 0 ]; then
         echo "the program cannot be started (status $1): it is not executable, not for this machine, or its loader is missing"
-    elif [ "$2" = 'write failed' ] && [ -p "/dev/fd/$output" ]; then
-        # Where the caller ignores the signal of a broken pipe, a reader that left makes a write fail, and on a pipe nothing else does.
+    elif [ "$2" = 'write failed' ] && { [ -p "/dev/fd/$output" ] || [ -S "/dev/fd/$output" ]; }; then
+        # A program is not ended by the signal of a broken pipe: a reader that left makes a write fail, and on a pipe or a socket nothing else does.
         echo 'the reader left early'
     else
         printf '%s\n' "$2"
