@@ -1,20 +1,20 @@
 -- airframe/mod.rs, for any number of motors, and the two frames of four as instances.
-use Rattle.std.specs.Prelude.{Bool, false, cond, ◌&&◌, List, [], ◌∷◌, ◌++◌, ℕ, zero, suc, ◌*◌, length, get_or, take, drop, replicate, ℤ, pos, negsuc, Float}
+use Rattle.std.specs.Prelude.{Bool, false, cond, ◌&&◌, List, [], ◌∷◌, ◌++◌, ℕ, ◌*◌, length, get_or, take, drop, replicate, Option, Some, None, Float}
 use Rattle.std.specs.Float.Ieee as Ieee
 use Rattle.std.specs.Float.Ieee.{lt, neg}
 use Rattle.std.specs.Float.{inf}
 use Rattle.float.specs.F32 as F
 use Rattle.float.specs.F32.{◌+f◌, ◌*f◌, ◌/f◌}
 use Rattle.refusal.specs.declared.Refusal.{Refusal}
+use Rattle.refusal.specs.Answers.{Answer, answer_of}
+use Rattle.airframe.specs.declared.Sign.{Sign}
+use Rattle.airframe.specs.declared.Sign.TheVariants.{Plus, Minus, Nought}
 use Rattle.airframe.specs.declared.Signs.{Signs}
 use Rattle.airframe.specs.declared.Motor.{Motor}
 use Rattle.airframe.specs.declared.PerRow.{PerRow}
-use Rattle.airframe.specs.declared.Mixing.{Mixing}
+use Rattle.airframe.specs.declared.Measures.{Measures}
 
 -- ---- the mixing matrix of any number of motors
-
-abbrev pub motor : Float → Float → Float → Motor
-motor x y reaction = record { x = x; y = y; reaction = reaction }
 
 -- a motor's column: (−y, x, −reaction, −1)
 unfoldable pub column : Motor → PerRow
@@ -60,63 +60,50 @@ unfoldable pub zeros : ℕ → List Float
 zeros n = replicate n F.zero
 
 -- refusal 17 where a row's sum is not good; the numbers are then +0
-unfoldable pub refusal_of : List Motor → Refusal
-refusal_of ms = cond (good_sums (sums_of ms)) Refusal.None Refusal.RowSum
+unfoldable pub refusal_of : List Motor → Option Refusal
+refusal_of ms = cond (good_sums (sums_of ms)) None (Some Refusal.RowSum)
 
 unfoldable pub matrix_of : List Motor → List Float
 matrix_of ms = cond (good_sums (sums_of ms)) (entries (sums_of ms) ms) (zeros (4 * length ms))
 
--- ---- a run of motors, three numbers each, as the functions are lent it
-
--- one or two numbers left over are no motor
-unfoldable pub motors_of : List Float → List Motor
-motors_of [] = []
-motors_of (x ∷ []) = []
-motors_of (x ∷ y ∷ []) = []
-motors_of (x ∷ y ∷ reaction ∷ rest) = motor x y reaction ∷ motors_of rest
-
-unfoldable pub flat : List Motor → List Float
-flat [] = []
-flat (m ∷ ms) = m.x ∷ m.y ∷ m.reaction ∷ flat ms
-
 -- ---- the frames
 
-abbrev pub signs : ℤ → ℤ → ℤ → Signs
+abbrev pub signs : Sign → Sign → Sign → Signs
 signs x y reaction = record { 0 = x; 1 = y; 2 = reaction }
 
 -- the signs of x, y and reaction: the X frame's back right, front right, back left, front left; the plus frame's right, front, back, left
 unfoldable pub table : List Signs
 table =
-    signs (negsuc 0) (pos 1) (pos 1)
-    ∷ signs (pos 1) (pos 1) (negsuc 0)
-    ∷ signs (negsuc 0) (negsuc 0) (negsuc 0)
-    ∷ signs (pos 1) (negsuc 0) (pos 1)
-    ∷ signs (pos 0) (pos 1) (pos 1)
-    ∷ signs (pos 1) (pos 0) (negsuc 0)
-    ∷ signs (negsuc 0) (pos 0) (negsuc 0)
-    ∷ signs (pos 0) (negsuc 0) (pos 1)
+    signs Minus Plus Plus
+    ∷ signs Plus Plus Minus
+    ∷ signs Minus Minus Minus
+    ∷ signs Plus Minus Plus
+    ∷ signs Nought Plus Plus
+    ∷ signs Plus Nought Minus
+    ∷ signs Minus Nought Minus
+    ∷ signs Nought Minus Plus
     ∷ []
 
 unfoldable pub signs_at : ℕ → Signs
-signs_at at = get_or table at (signs (pos 0) (pos 0) (pos 0))
+signs_at at = get_or table at (signs Nought Nought Nought)
 
 -- `count` rows of the table, from `first` on
 unfoldable pub rows_from : ℕ → ℕ → List Signs
 rows_from first count = take count (drop first table)
 
 -- the distance, the distance with its sign turned, or +0: never 0 times the distance
-unfoldable pub signed : ℤ → Float → Float
-signed (pos zero) d = F.zero
-signed (pos (suc n)) d = d
-signed (negsuc n) d = neg d
+unfoldable pub signed : Sign → Float → Float
+signed Plus d = d
+signed Minus d = neg d
+signed Nought d = F.zero
 
 -- the Rust's `reaction * dir` and `-reaction * dir`
-unfoldable pub frame_motor : Float → Float → Float → Float → Signs → Motor
-frame_motor half_x half_y reaction dir s = motor (signed s.0 half_x) (signed s.1 half_y) (signed s.2 reaction *f dir)
+unfoldable pub frame_motor : Measures → Signs → Motor
+frame_motor m s = record { x = signed s.0 m.half_x; y = signed s.1 m.half_y; reaction = signed s.2 m.reaction *f m.dir }
 
-unfoldable pub frame : Float → Float → Float → Float → List Signs → List Motor
-frame half_x half_y reaction dir [] = []
-frame half_x half_y reaction dir (s ∷ ss) = frame_motor half_x half_y reaction dir s ∷ frame half_x half_y reaction dir ss
+unfoldable pub frame : Measures → List Signs → List Motor
+frame m [] = []
+frame m (s ∷ ss) = frame_motor m s ∷ frame m ss
 
 unfoldable pub dir_of : Bool → Float
 dir_of turned = cond turned F.minus_one F.one
@@ -125,21 +112,22 @@ abbrev pub two : Float
 two = Ieee.of_bits Ieee.binary32 0x4000_0000
 
 unfoldable pub quad_motors : ℕ → Float → Float → Float → Bool → List Motor
-quad_motors first x_dist y_dist reaction turned = frame (x_dist /f two) (y_dist /f two) reaction (dir_of turned) (rows_from first 4)
+quad_motors first x_dist y_dist reaction turned =
+    frame (record { half_x = x_dist /f two; half_y = y_dist /f two; reaction = reaction; dir = dir_of turned }) (rows_from first 4)
 
 -- what a frame of four answers: the statements above, which hold for any number of motors, at its four
-unfoldable pub mixed : List Motor → Mixing
-mixed ms = record { refusal = refusal_of ms; matrix = matrix_of ms }
+unfoldable pub mixed : List Motor → Answer (List Float)
+mixed ms = answer_of (refusal_of ms) (matrix_of ms)
 
-unfoldable pub quad : ℕ → Float → Float → Float → Bool → Mixing
+unfoldable pub quad : ℕ → Float → Float → Float → Bool → Answer (List Float)
 quad first x_dist y_dist reaction turned = mixed (quad_motors first x_dist y_dist reaction turned)
 
-unfoldable pub call_quad_x_basic : Float → Float → Float → Bool → Mixing
+unfoldable pub call_quad_x_basic : Float → Float → Float → Bool → Answer (List Float)
 call_quad_x_basic x_dist y_dist reaction outspin = quad 0 x_dist y_dist reaction outspin
 
-unfoldable pub call_quad_p_basic : Float → Float → Float → Bool → Mixing
+unfoldable pub call_quad_p_basic : Float → Float → Float → Bool → Answer (List Float)
 call_quad_p_basic x_dist y_dist reaction reverse = quad 4 x_dist y_dist reaction reverse
 
 -- the Rust's constant DEV_QUAD_MOTOR_SETUP: the X frame of 0.165, 0.225 and 0.1
-unfoldable pub dev_quad_motor_setup : Mixing
+unfoldable pub dev_quad_motor_setup : Answer (List Float)
 dev_quad_motor_setup = call_quad_x_basic (Ieee.of_bits Ieee.binary32 0x3e28_f5c3) (Ieee.of_bits Ieee.binary32 0x3e66_6666) (Ieee.of_bits Ieee.binary32 0x3dcc_cccd) false

@@ -1,5 +1,5 @@
 -- What the definitions of Airframe.antt give, motor by motor. Assumes nothing.
-use Rattle.std.specs.Prelude.{◌≡◌, refl, Bool, true, false, cond, List, [], ◌∷◌, ◌++◌, ℕ, zero, suc, ◌+◌, ◌-◌, ◌*◌, ◌≤◌, ◌<◌, get_or, take, drop, set, replicate, ℤ, pos, Float}
+use Rattle.std.specs.Prelude.{◌≡◌, refl, Bool, true, false, cond, List, [], ◌∷◌, ◌++◌, ℕ, zero, suc, ◌+◌, ◌*◌, ◌≤◌, ◌<◌, get_or, take, drop, set, replicate, ℤ, Some, None, Float}
 use Rattle.std.proofs.Math.Path.{sym}
 use Rattle.std.proofs.Common.{ap, ◌∙◌, append_assoc, append-nil, add-one, arith, length-append, drop_of_length-le, take_at, take_all, take-suc-set, get_or-take, get_or-drop, lt-ltb}
 use Rattle.std.proofs.Math.ListN.{length, length-drop}
@@ -11,49 +11,17 @@ use Rattle.std.specs.Float.{nan, inf, fin}
 use Rattle.std.specs.Float.Ieee.{lt, of_bits}
 use Rattle.std.specs.Float.Ieee.Positive.{positive}
 use Rattle.float.specs.FloatLaws.{above_zero, zero_not_above}
-use Rattle.float.specs.F32 as F
 use Rattle.lemmas.specs.Cases.{when_true, when_false}
 use Rattle.refusal.specs.declared.Refusal.TheVariants as Refusal
+use Rattle.float.specs.F32 as F
+use Rattle.refusal.specs.Answers as Answers
+use Rattle.airframe.specs.declared.Sign.TheVariants.{Nought}
 use Rattle.airframe.specs.declared.Signs.{Signs}
+use Rattle.airframe.specs.declared.Measures.{Measures}
 use Rattle.airframe.specs.declared.Motor.{Motor}
 use Rattle.airframe.specs.declared.PerRow.{PerRow}
 use Rattle.airframe.specs.Airframe as A
-use Rattle.airframe.specs.Airframe.{motor, column, divided, four, sums_of, good_sum, good_sums, entries, zeros, refusal_of, matrix_of, motors_of, flat, signs, table, signs_at, rows_from, frame_motor, frame, dev_quad_motor_setup}
-
--- ---- a run of motors, from a place on
-module _ (l : List Float) (i : ℕ) where
-  three : 3 ≤ length l - i → drop i l ≡ get_or l i nan ∷ get_or l (i + 1) nan ∷ get_or l (i + 2) nan ∷ drop (i + 3) l
-  three h =
-      let p : i < length l = omega arith in
-      let q : suc i < length l = omega arith in
-      let r : suc (suc i) < length l = omega arith in
-      let a : i + 1 ≡ suc i = omega arith in
-      let b : i + 2 ≡ suc (suc i) = omega arith in
-      let d : i + 3 ≡ suc (suc (suc i)) = omega arith in
-      rw (a, b, d, drop-cons l i nan p, drop-cons l (suc i) nan q, drop-cons l (suc (suc i)) nan r)
-
-  pub motors_on : 3 ≤ length l - i → motors_of (drop i l) ≡ motor (get_or l i nan) (get_or l (i + 1) nan) (get_or l (i + 2) nan) ∷ motors_of (drop (i + 3) l)
-  unfolding motors_of
-  motors_on h = rw (three h)
-
-  pub one_less : 3 ≤ length l - i → length (motors_of (drop i l)) ≡ length (motors_of (drop (i + 3) l)) + 1
-  one_less h = rw (motors_on h, add-one)
-
--- fewer than three numbers are no motor
-too_few : (l : List Float) → length l < 3 → motors_of l ≡ []
-unfolding motors_of
-too_few [] h = refl
-too_few (x ∷ []) h = refl
-too_few (x ∷ y ∷ []) h = refl
-too_few (x ∷ y ∷ r ∷ l) h = absurd (omega arith)
-
-pub motors_end : (l : List Float) (i : ℕ) → length l - i < 3 → motors_of (drop i l) ≡ []
-motors_end l i h = too_few (drop i l) (rw length-drop h)
-
-pub motors_flat : (ms : List Motor) → motors_of (flat ms) ≡ ms
-unfolding motors_of flat
-motors_flat [] = refl
-motors_flat (m ∷ ms) = ap (λ (l : List Motor). m ∷ l) (motors_flat ms)
+use Rattle.airframe.specs.Airframe.{column, divided, four, sums_of, good_sum, good_sums, entries, zeros, refusal_of, matrix_of, signs, table, signs_at, rows_from, frame_motor, frame, dev_quad_motor_setup}
 
 -- ---- lengths
 pub length-entries : (s : PerRow) (ms : List Motor) → length (entries s ms) ≡ 4 * length ms
@@ -100,11 +68,11 @@ good_sum_lem (fin false (suc m) e) = rw (above_zero m e, below_infinity (suc m) 
 
 -- ---- the answer where every row's sum is good, and where one is not
 module _ (ms : List Motor) where
-  pub refusal_good : good_sums (sums_of ms) ≡ true → refusal_of ms ≡ Refusal.None
+  pub refusal_good : good_sums (sums_of ms) ≡ true → refusal_of ms ≡ None
   unfolding refusal_of
   refusal_good h = sym (when_true _ _ _ h)
 
-  pub refusal_bad : good_sums (sums_of ms) ≡ false → refusal_of ms ≡ Refusal.RowSum
+  pub refusal_bad : good_sums (sums_of ms) ≡ false → refusal_of ms ≡ Some Refusal.RowSum
   unfolding refusal_of
   refusal_bad h = sym (when_false _ _ _ h)
 
@@ -134,28 +102,27 @@ module _ (first count : ℕ) (fits : first + count ≤ 8) where
   unfolding rows_from table
   length-rows = length-take-le count (drop first table) (rw length-drop (omega arith))
 
-  row_at : (m : ℕ) → m < count → get_or (rows_from first count) m (signs (pos 0) (pos 0) (pos 0)) ≡ signs_at (first + m)
+  row_at : (m : ℕ) → m < count → get_or (rows_from first count) m (signs Nought Nought Nought) ≡ signs_at (first + m)
   unfolding rows_from signs_at
   row_at m h = rw (get_or-take, get_or-drop)
 
-  pub frame_on : (half_x half_y reaction dir : Float) (m : ℕ) → m < count
-      → frame half_x half_y reaction dir (drop m (rows_from first count))
-      ≡ frame_motor half_x half_y reaction dir (signs_at (first + m)) ∷ frame half_x half_y reaction dir (drop (m + 1) (rows_from first count))
+  pub frame_on : (measures : Measures) (m : ℕ) → m < count
+      → frame measures (drop m (rows_from first count)) ≡ frame_motor measures (signs_at (first + m)) ∷ frame measures (drop (m + 1) (rows_from first count))
   unfolding frame
-  frame_on half_x half_y reaction dir m h =
+  frame_on measures m h =
       let p : m < length (rows_from first count) = rw length-rows h in
-      rw (add-one, drop-cons (rows_from first count) m (signs (pos 0) (pos 0) (pos 0)) p, row_at m h)
+      rw (add-one, drop-cons (rows_from first count) m (signs Nought Nought Nought) p, row_at m h)
 
-  pub frame_end : (half_x half_y reaction dir : Float) → frame half_x half_y reaction dir (drop count (rows_from first count)) ≡ []
+  pub frame_end : (measures : Measures) → frame measures (drop count (rows_from first count)) ≡ []
   unfolding frame
-  frame_end half_x half_y reaction dir =
+  frame_end measures =
       let p : length (rows_from first count) ≤ count = omega (arith, length-rows) in
       rw (drop_of_length-le (rows_from first count) p)
 
-pub length_frame : (half_x half_y reaction dir : Float) (ss : List Signs) → length (frame half_x half_y reaction dir ss) ≡ length ss
+pub length_frame : (measures : Measures) (ss : List Signs) → length (frame measures ss) ≡ length ss
 unfolding frame
-length_frame half_x half_y reaction dir [] = refl
-length_frame half_x half_y reaction dir (s ∷ ss) = ap suc (length_frame half_x half_y reaction dir ss)
+length_frame measures [] = refl
+length_frame measures (s ∷ ss) = ap suc (length_frame measures ss)
 
 -- ---- a run that is written from its start: what stands before k, with the numbers written at k behind it
 module _ (l : List Float) (k : ℕ) where
@@ -182,7 +149,7 @@ module _ (l : List Float) (k : ℕ) where
       let r : k + 3 ≡ suc (suc (suc k)) = omega arith in
       rw (p, q, r) (more (a ∷ b ∷ c ∷ d ∷ []) rest whole h e)
 
-pub all_written : (l : List Float) (k : ℕ) (rest whole : List Float) → length l ≡ k → rest ≡ [] → take k l ++ rest ≡ whole → l ≡ whole
+pub all_written : {A : Type 0} (l : List A) (k : ℕ) (rest whole : List A) → length l ≡ k → rest ≡ [] → take k l ++ rest ≡ whole → l ≡ whole
 all_written l k rest whole h e i = sym (append-nil l) ∙ rw (take_all k l (omega arith), e) at i
 
 pub zero_more : (l : List Float) (k : ℕ) → k < length l → take k l ≡ zeros k → take (k + 1) (set l k F.zero) ≡ zeros (k + 1)
@@ -193,7 +160,7 @@ pub all_zeros : (l : List Float) (k n : ℕ) → take k l ≡ zeros k → k ≡ 
 all_zeros l k n e h q = rw (← q, ← h) (sym (take_all k l (omega arith)) ∙ e)
 
 -- ---- the Rust's constant frame is not refused
-pub dev_quad_accepted : dev_quad_motor_setup.refusal ≡ Refusal.None
+pub dev_quad_accepted : Answers.refusal_of dev_quad_motor_setup ≡ None
 unfolding Ieee.of_bits Ieee.add Ieee.mul Ieee.div Ieee.neg Ieee.lt
     A.column A.add_squares A.sums A.sums_of A.good_sum A.good_sums A.refusal_of A.table A.rows_from A.signed A.frame_motor A.frame A.dir_of A.quad_motors A.mixed A.quad A.call_quad_x_basic A.dev_quad_motor_setup
 dev_quad_accepted = refl

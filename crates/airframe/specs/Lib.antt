@@ -1,2 +1,3 @@
 pub mod Airframe
 pub mod AirframeLaws
+pub mod FlatMotors

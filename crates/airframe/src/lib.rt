@@ -1,41 +1,39 @@
 // airframe/mod.rs: where a frame's motors stand, and the matrix that mixes them. The definitions and the functions from
-// `read_motor` to `mix` hold for any number of motors; a frame of four is an instance of them.
-#![tactic(auto)]
+// `row_sums` to `mix` hold for any number of motors; a frame of four is an instance of them.
+#![tactic(auto, unfolding(crate::specs::Airframe::signs_at, crate::specs::Airframe::table, crate::specs::Airframe::signed, crate::specs::Airframe::frame_motor, crate::specs::Airframe::column, crate::specs::Airframe::add_squares, crate::specs::Airframe::divided, crate::specs::Airframe::good_sum, crate::specs::Airframe::good_sums, crate::specs::Airframe::dir_of, crate::specs::Airframe::call_quad_x_basic, crate::specs::Airframe::call_quad_p_basic, crate::specs::Airframe::dev_quad_motor_setup))]
 
-ghost use Rattle.std.specs.Prelude.{◌≡◌, ◌+◌, ◌*◌, ◌<◌, ◌≤◌, length, get_or};
-ghost use Rattle.std.specs.Float.{nan};
-ghost use Rattle.airframe.specs.Airframe.{signs_at, signed, motor, frame_motor, flat, frame, rows_from, motors_of, column, add_squares, divided, sums_of, good_sum, good_sums, entries, zeros, refusal_of, matrix_of, dir_of, quad, call_quad_x_basic, call_quad_p_basic, dev_quad_motor_setup};
+ghost use Rattle.std.specs.Prelude.{◌≡◌, ◌+◌, ◌*◌, ◌<◌, ◌≤◌, length};
+ghost use Rattle.airframe.specs.Airframe.{signs_at, signed, frame_motor, frame, rows_from, column, add_squares, divided, sums_of, good_sum, good_sums, entries, refusal_of, matrix_of, dir_of, quad, call_quad_x_basic, call_quad_p_basic, dev_quad_motor_setup};
 
-use refusal::Refusal;
+use refusal::{Answer, Refusal, answer_of};
 
-// What a frame gives: four numbers a motor, the motors in the Rust's order. The Rust makes a `MotorSetup` and asks it for
-// `into_mixing_matrix`; here one call does both. Refused, the numbers are +0.
+// What a frame makes of a distance: +0 whatever it is, the distance as it is, or with its sign turned.
 #[derive(Clone, Copy)]
-pub struct Mixing {
-    pub refusal: Refusal,
-    pub matrix: [f32; 16],
+enum Sign {
+    Nought,
+    Plus,
+    Minus,
 }
 
-// The signs of a motor's x, y and reaction: 1 takes the frame's distance as it is, -1 turns its sign, and 0 is +0
-// whatever the distance.
+// The signs of a motor's x, y and reaction.
 #[derive(Clone, Copy)]
-struct Signs(i8, i8, i8);
+struct Signs(Sign, Sign, Sign);
 
 // Four motors to a frame: the X frame's back right, front right, back left, front left; then the plus frame's right,
 // front, back, left.
 const FRAMES: [Signs; 8] = [
-    Signs(-1, 1, 1),
-    Signs(1, 1, -1),
-    Signs(-1, -1, -1),
-    Signs(1, -1, 1),
-    Signs(0, 1, 1),
-    Signs(1, 0, -1),
-    Signs(-1, 0, -1),
-    Signs(0, -1, 1),
+    Signs(Sign::Minus, Sign::Plus, Sign::Plus),
+    Signs(Sign::Plus, Sign::Plus, Sign::Minus),
+    Signs(Sign::Minus, Sign::Minus, Sign::Minus),
+    Signs(Sign::Plus, Sign::Minus, Sign::Plus),
+    Signs(Sign::Nought, Sign::Plus, Sign::Plus),
+    Signs(Sign::Plus, Sign::Nought, Sign::Minus),
+    Signs(Sign::Minus, Sign::Nought, Sign::Minus),
+    Signs(Sign::Nought, Sign::Minus, Sign::Plus),
 ];
 
-// A motor's place and the reaction of its propeller. A run of motors is lent as three numbers a motor, in this order.
-#[derive(Clone, Copy)]
+// A motor's place and the reaction of its propeller.
+#[derive(Clone, Copy, Default)]
 struct Motor {
     x: f32,
     y: f32,
@@ -43,12 +41,23 @@ struct Motor {
 }
 
 // One number for each row of the effectiveness matrix: the turns about x, y and z, and the push.
-#[derive(Clone, Copy)]
+// Kept: four names, and no array. A column has a formula for each row, and the definitions are over the four.
+#[derive(Clone, Copy, Default)]
 struct PerRow {
     roll: f32,
     pitch: f32,
     yaw: f32,
     thrust: f32,
+}
+
+// What the motors of a frame have in common: half of the distances between them, the reaction of their propellers, and
+// its factor, -1 where every propeller turns the other way round.
+#[derive(Clone, Copy)]
+struct Measures {
+    half_x: f32,
+    half_y: f32,
+    reaction: f32,
+    dir: f32,
 }
 
 // The one place where the table is read.
@@ -59,60 +68,35 @@ fn signs_at(at: usize) -> Signs
     FRAMES[at]
 }
 
-fn signed(sign: i8, distance: f32) -> f32
+fn signed(sign: Sign, distance: f32) -> f32
     ensures { result ≡ signed sign distance }
 {
-    if sign == 0 {
-        return 0.0;
-    }
-    if sign < 0 { -distance } else { distance }
-}
-
-fn frame_motor(at: usize, half_x: f32, half_y: f32, reaction: f32, dir: f32) -> Motor
-    requires { at < 8 }
-    ensures { result ≡ frame_motor half_x half_y reaction dir (signs_at at) }
-{
-    let signs = signs_at(at);
-    Motor {
-        x: signed(signs.0, half_x),
-        y: signed(signs.1, half_y),
-        reaction: signed(signs.2, reaction) * dir,
+    match sign {
+        Sign::Plus => distance,
+        Sign::Minus => -distance,
+        Sign::Nought => 0.0,
     }
 }
 
-// Writes the motors of `count` rows of the table, from `first` on, three numbers a motor.
-fn place(
-    first: usize,
-    half_x: f32,
-    half_y: f32,
-    reaction: f32,
-    dir: f32,
-    count: usize,
-    out: &mut [f32],
-)
-    requires { (first + count ≤ 8) × (length out.old ≡ 3 * count) }
-    ensures { out.new ≡ flat (frame half_x half_y reaction dir (rows_from first count)) }
-{
-    let mut m: usize = 0;
-    while m < count {
-        let motor = frame_motor(first + m, half_x, half_y, reaction, dir);
-        let at = 3 * m;
-        out[at] = motor.x;
-        out[at + 1] = motor.y;
-        out[at + 2] = motor.reaction;
-        m += 1;
+impl Measures {
+    fn frame_motor(self, signs: Signs) -> Motor
+        ensures { result ≡ frame_motor self signs }
+    {
+        Motor {
+            x: signed(signs.0, self.half_x),
+            y: signed(signs.1, self.half_y),
+            reaction: signed(signs.2, self.reaction) * self.dir,
+        }
     }
-}
 
-// The motor whose three numbers start at `at`.
-fn read_motor(motors: &[f32], at: usize) -> Motor
-    requires { at + 3 ≤ length motors.now }
-    ensures { result ≡ motor (get_or motors.now at nan) (get_or motors.now (at + 1) nan) (get_or motors.now (at + 2) nan) }
-{
-    Motor {
-        x: motors[at],
-        y: motors[at + 1],
-        reaction: motors[at + 2],
+    // The motors of as many rows of the table as there is room for, from `first` on.
+    fn place(self, first: usize, out: &mut [Motor])
+        requires { first + length out.old ≤ 8 }
+        ensures { out.new ≡ frame self (rows_from first (length out.old)) }
+    {
+        for (i, motor) in out.iter_mut().enumerate() {
+            *motor = self.frame_motor(signs_at(first + i));
+        }
     }
 }
 
@@ -151,89 +135,56 @@ fn divided(c: PerRow, s: PerRow) -> PerRow
 }
 
 // The sum of squares of each row, from +0, in motor order.
-fn row_sums(motors: &[f32]) -> PerRow
-    ensures { result ≡ sums_of (motors_of motors.now) }
+fn row_sums(motors: &[Motor]) -> PerRow
+    ensures { result ≡ sums_of motors.now }
 {
-    let mut s = PerRow {
-        roll: 0.0,
-        pitch: 0.0,
-        yaw: 0.0,
-        thrust: 0.0,
-    };
-    let mut i: usize = 0;
-    while 3 <= motors.len() - i {
-        s = add_squares(s, column(read_motor(motors, i)));
-        i += 3;
+    let mut s = PerRow::default();
+    for motor in motors {
+        s = add_squares(s, column(*motor));
     }
     s
 }
 
-// Above 0 and finite: 1/0 is +infinity.
+// Above 0 and finite.
 fn good_sum(s: f32) -> bool
     ensures { result ≡ good_sum s }
 {
-    if s > 0.0 {
-        return s < 1.0 / 0.0;
-    }
-    false
+    s > 0.0 && s < f32::INFINITY
 }
 
 fn good_sums(s: PerRow) -> bool
     ensures { result ≡ good_sums s }
 {
-    if !good_sum(s.roll) {
-        return false;
-    }
-    if !good_sum(s.pitch) {
-        return false;
-    }
-    if !good_sum(s.yaw) {
-        return false;
-    }
-    good_sum(s.thrust)
+    good_sum(s.roll) && good_sum(s.pitch) && good_sum(s.yaw) && good_sum(s.thrust)
 }
 
 // Writes each motor's column, divided row by row by the sums.
-fn divide(motors: &[f32], s: PerRow, out: &mut [f32])
-    requires { length out.old ≡ 4 * length (motors_of motors.now) }
-    ensures { out.new ≡ entries s (motors_of motors.now) }
+fn divide(motors: &[Motor], s: PerRow, out: &mut [f32])
+    requires { length out.old ≡ 4 * length motors.now }
+    ensures { out.new ≡ entries s motors.now }
 {
-    let mut i: usize = 0;
-    let mut at: usize = 0;
-    while 3 <= motors.len() - i {
-        let e = divided(column(read_motor(motors, i)), s);
+    for (i, motor) in motors.iter().enumerate() {
+        let e = divided(column(*motor), s);
+        let at = 4 * i;
         out[at] = e.roll;
         out[at + 1] = e.pitch;
         out[at + 2] = e.yaw;
         out[at + 3] = e.thrust;
-        i += 3;
-        at += 4;
     }
 }
 
-// A refused answer's numbers.
-fn clear(out: &mut [f32])
-    ensures { out.new ≡ zeros (length out.old) }
-{
-    let mut i: usize = 0;
-    while i < out.len() {
-        out[i] = 0.0;
-        i += 1;
-    }
-}
-
-// The mixing matrix of a lent run of motors, four numbers a motor, or the refusal.
-fn mix(motors: &[f32], out: &mut [f32]) -> Refusal
-    requires { length out.old ≡ 4 * length (motors_of motors.now) }
-    ensures { (result ≡ refusal_of (motors_of motors.now)) × (out.new ≡ matrix_of (motors_of motors.now)) }
+// The mixing matrix of a lent run of motors, four numbers a motor, in motor order. Refused, the numbers are +0.
+fn mix(motors: &[Motor], out: &mut [f32]) -> Option<Refusal>
+    requires { length out.old ≡ 4 * length motors.now }
+    ensures { (result ≡ refusal_of motors.now) × (out.new ≡ matrix_of motors.now) }
 {
     let s = row_sums(motors);
     if good_sums(s) {
         divide(motors, s, out);
-        return Refusal::None;
+        return None;
     }
-    clear(out);
-    Refusal::RowSum
+    out.fill(0.0);
+    Some(Refusal::RowSum)
 }
 
 fn dir_of(turned: bool) -> f32
@@ -242,29 +193,30 @@ fn dir_of(turned: bool) -> f32
     if turned { -1.0 } else { 1.0 }
 }
 
-// A frame of four motors. The Rust's `position` has half of each distance, and its `reaction` the direction as a factor.
-fn quad(first: usize, x_dist: f32, y_dist: f32, reaction: f32, turned: bool) -> Mixing
+// A frame of four motors: four numbers a motor, the motors in the Rust's order. The Rust makes a `MotorSetup` and asks it for
+// `into_mixing_matrix`; here one call does both. The Rust's `position` has half of each distance, and its `reaction` the direction
+// as a factor.
+#[tactic(auto, unfolding(crate::specs::Airframe::dir_of, crate::specs::Airframe::quad_motors, crate::specs::Airframe::mixed, crate::specs::Airframe::quad))]
+fn quad(first: usize, x_dist: f32, y_dist: f32, reaction: f32, turned: bool) -> Answer<[f32; 16]>
     requires { first + 4 ≤ 8 }
     ensures { result ≡ quad first x_dist y_dist reaction turned }
 {
-    let dir = dir_of(turned);
-    let mut motors = [0.0f32; 12];
-    place(
-        first,
-        x_dist / 2.0,
-        y_dist / 2.0,
+    let measures = Measures {
+        half_x: x_dist / 2.0,
+        half_y: y_dist / 2.0,
         reaction,
-        dir,
-        4,
-        &mut motors,
-    );
+        dir: dir_of(turned),
+    };
+    let mut motors = [Motor::default(); 4];
+    measures.place(first, &mut motors);
     let mut matrix = [0.0f32; 16];
-    let refusal = mix(&motors, &mut matrix);
-    Mixing { refusal, matrix }
+    let why = mix(&motors, &mut matrix);
+    answer_of(why, matrix)
 }
 
 // The X frame; `outspin` turns every propeller the other way round.
-pub fn quad_x_basic(x_dist: f32, y_dist: f32, reaction: f32, outspin: bool) -> Mixing
+// Kept: a bool, as the Rust's call takes it. It is a switch with no value beside it, and so is `reverse` below.
+pub fn quad_x_basic(x_dist: f32, y_dist: f32, reaction: f32, outspin: bool) -> Answer<[f32; 16]>
     ensures { result ≡ call_quad_x_basic x_dist y_dist reaction outspin }
 {
     quad(0, x_dist, y_dist, reaction, outspin)
@@ -276,14 +228,14 @@ pub fn quad_p_basic(
     y_motor_spacing: f32,
     reaction: f32,
     reverse: bool,
-) -> Mixing
+) -> Answer<[f32; 16]>
     ensures { result ≡ call_quad_p_basic x_motor_spacing y_motor_spacing reaction reverse }
 {
     quad(4, x_motor_spacing, y_motor_spacing, reaction, reverse)
 }
 
 // The Rust's constant DEV_QUAD_MOTOR_SETUP, as a function: a constant cannot hold a call here.
-pub fn dev_quad_motor_setup() -> Mixing
+pub fn dev_quad_motor_setup() -> Answer<[f32; 16]>
     ensures { result ≡ dev_quad_motor_setup }
 {
     quad_x_basic(0.165, 0.225, 0.1, false)

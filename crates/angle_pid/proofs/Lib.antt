@@ -1,2 +1,3 @@
--- Laws of the controller.
+-- Laws of the controller, and what its functions' proofs share.
 pub mod PidLaws
+mod Options

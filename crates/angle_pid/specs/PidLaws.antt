@@ -1,17 +1,16 @@
 -- What the laws of the controller speak of; the laws stand in proofs/PidLaws.antt.
-use Rattle.std.specs.Prelude.{◌≡◌, Float}
-use Rattle.refusal.specs.declared.Refusal.{Refusal}
+use Rattle.std.specs.Prelude.{◌≡◌, Float, None}
+use Rattle.refusal.specs.Answers.{Answer, given, refusal_of}
 use Rattle.angle_pid.specs.declared.pid.Pid.{Pid}
-use Rattle.angle_pid.specs.declared.pid.PidChanged.{PidChanged}
 use Rattle.angle_pid.specs.Range.{wrap_error}
 use Rattle.angle_pid.specs.LpFilter.{stored_tau}
 
-abbrev pub LeavesPid : Pid → PidChanged → Type 0
-LeavesPid s r = (r.refusal ≡ Refusal.None → ⊥) → r.pid ≡ s
+abbrev pub LeavesPid : Pid → Answer Pid → Type 0
+LeavesPid s r = (refusal_of r ≡ None → ⊥) → given r ≡ s
 
 -- the error as it is wrapped: itself, where no wrapping is on, and else what the rule leads to
 abbrev pub wrapped_error : Pid → Float → Float
-wrapped_error s error = (wrap_error s.wrapping error).value
+wrapped_error s error = (given (wrap_error s.wrapping error)).value
 
 -- what an update leaves of a state: the gains, ts, the switch, the ranges and the low pass's time constant
 pub record SameParts (s next : Pid) : Type 0 where

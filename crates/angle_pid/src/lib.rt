@@ -5,6 +5,5 @@ mod lp_filter;
 mod pid;
 mod range;
 
-pub use lp_filter::{LpFilter, Tau};
-pub use pid::{Pid, PidChanged, PidConfig, PidUpdated};
+pub use pid::{Pid, PidConfig, PidUpdated};
 pub use range::Range;

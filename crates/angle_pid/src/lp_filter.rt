@@ -1,78 +1,36 @@
-// The Rust's Option of a `Lowpass` on the derivative, and the configuration's Option of its time constant.
-ghost use Rattle.std.specs.Prelude.{◌≡◌};
-ghost use Rattle.angle_pid.specs.LpFilter.{tau_refusal, new_lp_filter, stored_tau, step_lp_filter};
+// The low pass on the derivative, of which a controller has an Option.
+ghost use Rattle.std.specs.Prelude.{◌≡◌, Some};
+ghost use Rattle.angle_pid.specs.LpFilter.{tau_refusal, new_lp_filter, step_lp_filter};
 
 use filters::Lowpass;
 use refusal::Refusal;
+use step::Stepped;
 
-#[derive(Clone, Copy)]
-pub enum Tau {
-    Off,
-    On(f32),
+#[tactic(auto, unfolding(crate::specs::LpFilter::tau_refusal))]
+pub(crate) fn tau_refusal(tau: f32) -> Option<Refusal>
+    ensures { result ≡ tau_refusal (Some tau) }
+{
+    if tau > 0.0 { None } else { Some(Refusal::Tau) }
 }
 
-#[derive(Clone, Copy)]
-pub enum LpFilter {
-    Off,
-    On(Lowpass),
+#[tactic(auto, unfolding(crate::specs::LpFilter::new_lp_filter))]
+pub(crate) fn new_lp_filter(tau: Option<f32>, ts: f32) -> Option<Lowpass>
+    ensures { result ≡ new_lp_filter tau ts }
+{
+    tau.map(|tau| Lowpass::new(tau, ts))
 }
 
-#[derive(Clone, Copy)]
-pub struct LpFiltered {
-    pub y: f32,
-    pub filter: LpFilter,
-}
-
-impl Tau {
-    pub(crate) fn refusal(self) -> Refusal
-        ensures { result ≡ tau_refusal self }
-    {
-        match self {
-            Tau::Off => Refusal::None,
-            Tau::On(tau) => {
-                if tau > 0.0 {
-                    Refusal::None
-                } else {
-                    Refusal::Tau
-                }
-            }
-        }
-    }
-
-    pub(crate) fn filter(self, ts: f32) -> LpFilter
-        ensures { result ≡ new_lp_filter self ts }
-    {
-        match self {
-            Tau::Off => LpFilter::Off,
-            Tau::On(tau) => LpFilter::On(Lowpass::new(tau, ts)),
-        }
-    }
-}
-
-impl LpFilter {
-    // The time constant as the filter holds it, whatever its coefficients are.
-    pub(crate) fn tau(self) -> Tau
-        ensures { result ≡ stored_tau self }
-    {
-        match self {
-            LpFilter::Off => Tau::Off,
-            LpFilter::On(filter) => Tau::On(filter.tau),
-        }
-    }
-
-    pub(crate) fn update(self, x: f32) -> LpFiltered
-        ensures { result ≡ step_lp_filter self x }
-    {
-        match self {
-            LpFilter::Off => {
-                let filter = LpFilter::Off;
-                LpFiltered { y: x, filter }
-            }
-            LpFilter::On(lowpass) => {
-                let next = lowpass.update(x);
-                let inner = next.filter;
-                let filter = LpFilter::On(inner);
-                LpFiltered { y: next.y, filter }
+#[tactic(auto, unfolding(crate::specs::LpFilter::step_lp_filter))]
+pub(crate) fn step_lp_filter(filter: Option<Lowpass>, x: f32) -> Stepped<Option<Lowpass>>
+    ensures { result ≡ step_lp_filter filter x }
+{
+    match filter {
+        None => Stepped { y: x, state: None },
+        Some(lowpass) => {
+            let next = lowpass.update(x);
+            Stepped {
+                y: next.y,
+                state: Some(next.state),
             }
         }
     }

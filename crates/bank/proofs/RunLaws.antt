@@ -26,7 +26,7 @@ single_follows : Follows lane_machine single_machine lane_of Good
 single_follows =
     record {
       answer = λ c op g. ap (λ (s : _). s.answer) (step_same c op g).same;
-      next = λ c op g. ap (λ (s : _). s.lane) (step_same c op g).same;
+      next = λ c op g. ap (λ (s : _). s.state) (step_same c op g).same;
       good = λ c op g. (step_same c op g).good;
     }
 
@@ -41,7 +41,7 @@ module _ (L : ℕ) (low : L ≤ 7) where
         sound = λ b q n. step_eight b q.lane q.thing n;
         named = λ b q. refl;
         answer = λ b q n e. subst (λ (i : ℕ). (call_bank b i q.thing).answer ≡ (call_lane (lane_at b L) q.thing).answer) e (named b L q.thing low n).0;
-        next = λ b q n e. subst (λ (i : ℕ). lane_at (call_bank b i q.thing).bank L ≡ (call_lane (lane_at b L) q.thing).lane) e (named b L q.thing low n).1;
+        next = λ b q n e. subst (λ (i : ℕ). lane_at (call_bank b i q.thing).state L ≡ (call_lane (lane_at b L) q.thing).state) e (named b L q.thing low n).1;
         others = λ b q n e. others b q.lane q.thing L e;
       }
 

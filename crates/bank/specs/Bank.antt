@@ -1,13 +1,13 @@
 -- The bank: a call is the lane's step at the lane that it names, and nothing else changes. 8 comes before all else.
-use Rattle.std.specs.Prelude.{◌≡◌, cond, ℕ, ltb, length, get_or, set, replicate}
+use Rattle.std.specs.Prelude.{◌≡◌, Some, cond, ℕ, ltb, length, get_or, set, replicate}
 use Rattle.refusal.specs.declared.Refusal.TheVariants as Refusal
+use Rattle.refusal.specs.Answers.{Answer}
 use Rattle.bank.specs.declared.lane.Lane.{Lane}
 use Rattle.bank.specs.declared.lane.Op.{Op}
-use Rattle.bank.specs.declared.lane.Answer.{Answer}
-use Rattle.bank.specs.declared.lane.Stepped.{Stepped}
+use Rattle.bank.specs.declared.lane.Reply.{Reply}
+use Rattle.bank.specs.declared.lane.Called.{Called}
 use Rattle.bank.specs.declared.Bank.{Bank}
-use Rattle.bank.specs.declared.Banked.{Banked}
-use Rattle.bank.specs.Lane.{closed_lane, plain, call_lane}
+use Rattle.bank.specs.Lane.{closed_lane, called, plain, call_lane}
 
 unfoldable pub fresh_bank : Bank
 fresh_bank = record { lanes = replicate 8 closed_lane }
@@ -24,11 +24,11 @@ lane_at b i = get_or b.lanes i closed_lane
 abbrev pub put : Bank → ℕ → Lane → Bank
 put b i l = record { lanes = set b.lanes i l }
 
-abbrev pub banked : Answer → Bank → Banked
-banked a b = record { answer = a; bank = b }
+abbrev pub banked : Answer Reply → Bank → Called Bank
+banked a b = called a b
 
-abbrev pub placed : Bank → ℕ → Stepped → Banked
-placed b i next = banked next.answer (put b i next.lane)
+abbrev pub placed : Bank → ℕ → Called Lane → Called Bank
+placed b i next = banked next.answer (put b i next.state)
 
-unfoldable pub call_bank : Bank → ℕ → Op → Banked
-call_bank b i op = cond (ltb 7 i) (banked (plain Refusal.Lane) b) (placed b i (call_lane (lane_at b i) op))
+unfoldable pub call_bank : Bank → ℕ → Op → Called Bank
+call_bank b i op = cond (ltb 7 i) (banked (plain (Some Refusal.Lane)) b) (placed b i (call_lane (lane_at b i) op))

@@ -1,17 +1,15 @@
 -- A lane that was closed at some time and has had calls since is the single controller: it answers the same, and what it
 -- stores is that controller's state, or all zero where there is none. Assumes nothing.
-use Rattle.std.specs.Prelude.{◌≡◌, refl, Bool, true, false}
+use Rattle.std.specs.Prelude.{◌≡◌, refl, Bool, true, false, Option, Some, None, Float}
 use Rattle.std.proofs.Common.{◌∙◌}
 use Rattle.filters.specs.SlewRate.{bad_limit}
 use Rattle.rate_pid.specs.declared.RatePid.{RatePid}
 use Rattle.rate_pid.specs.RatePid.{new_rate_pid, bad_rate_pid, call_set_ts_rate_pid, call_set_gains_rate_pid, call_enable_integral_rate_pid, call_reset_integral_rate_pid}
 use Rattle.rate_pid.specs.RatePidLaws.{guard_passed, update_accepted, get_terms_accepted, slew_accepted, zero_not_bad, new_not_bad, bad_after_step, bad_after_slew, bad_after_set_ts, bad_after_set_gains, bad_after_enable, bad_after_reset}
 use Rattle.bank.specs.declared.lane.Lane.{Lane}
-use Rattle.bank.specs.declared.lane.SlewLimit.{SlewLimit}
-use Rattle.bank.specs.declared.lane.SlewLimit.TheVariants.{Off, At}
 use Rattle.bank.specs.declared.lane.Op.{Op}
 use Rattle.bank.specs.declared.lane.Op.TheVariants.{Open, Close, Update, SetTs, SetGains, EnableIntegral, ResetIntegral, ReadTerms}
-use Rattle.bank.specs.declared.lane.Stepped.{Stepped}
+use Rattle.bank.specs.declared.lane.Called.{Called}
 use Rattle.bank.specs.Lane.{closed_lane, open_lane, stepped, when_open, when_good, opened, call_lane}
 use Rattle.bank.specs.Single.{Single, none, one, Next, opened_single, call_single}
 
@@ -26,16 +24,16 @@ Good none = Unit
 Good (one s) = bad_rate_pid s ≡ false
 
 -- the lane's step is the controller's, which stays good
-pub record SameStep (next : Stepped) (n : Next) : Type 0 where
+pub record SameStep (next : Called Lane) (n : Next) : Type 0 where
   pub same : next ≡ stepped n.answer (lane_of n.single)
   pub good : Good n.single
 
-opened-same : (s : RatePid) (slew : SlewLimit) → bad_rate_pid s ≡ false → SameStep (opened closed_lane s slew) (opened_single s slew)
+opened-same : (s : RatePid) (slew : Option Float) → bad_rate_pid s ≡ false → SameStep (opened closed_lane s slew) (opened_single s slew)
 unfolding opened opened_single
-opened-same s Off g = record { same = refl; good = g }
-opened-same s (At limit) g = go (bad_limit limit) refl
+opened-same s None g = record { same = refl; good = g }
+opened-same s (Some limit) g = go (bad_limit limit) refl
   where
-    go : (t : Bool) → bad_limit limit ≡ t → SameStep (opened closed_lane s (At limit)) (opened_single s (At limit))
+    go : (t : Bool) → bad_limit limit ≡ t → SameStep (opened closed_lane s (Some limit)) (opened_single s (Some limit))
     go true e = record { same = simp e; good = simp e tt }
     go false e = record { same = simp (e, slew_accepted s g limit e); good = simp e (bad_after_slew s limit ∙ e) }
 

@@ -1,25 +1,20 @@
 // One lane: a rate controller with open and closed. `Lane::step` is the one meaning of a call on a lane, and the methods
 // are its calls one by one. A lane that is closed, or open already, is refused before its stored controller is tested,
 // and that before what the call is given. Refused, the lane is as it was.
-ghost use Rattle.std.specs.Prelude.{◌≡◌};
-ghost use Rattle.bank.specs.Lane.{closed_lane, open_with, plain_step, after_setter, call_lane};
+ghost use Rattle.std.specs.Prelude.{◌≡◌, Some, true, false};
+ghost use Rattle.refusal.specs.declared.Refusal.TheVariants as Refusal;
+ghost use Rattle.bank.specs.Lane.{closed_lane, called, plain, plain_step, after_setter, after_update, after_read, call_lane};
 ghost use Rattle.bank.specs.declared.lane.Op.TheVariants as Op;
 
-use rate_pid::{Changed, PidTerms, RatePid};
-use refusal::Refusal;
+use rate_pid::{PidTerms, RatePid, Updated};
+use refusal::{Answer, Refusal, answer_of, given, refusal_of};
 
-// Public, so that a lane can be built by hand; every call tests it.
+// Kept: `open` beside the controller, and no Option of one. A closed lane stores a controller too, which `open` tests.
+// Public, so that a lane can be built by hand.
 #[derive(Clone, Copy)]
 pub struct Lane {
     pub open: bool,
     pub pid: RatePid,
-}
-
-// A slew limit, if wanted.
-#[derive(Clone, Copy)]
-pub enum SlewLimit {
-    Off,
-    At(f32),
 }
 
 // What can be asked of a lane.
@@ -31,7 +26,7 @@ pub enum Op {
         kd: f32,
         tau: f32,
         dt: f32,
-        slew: SlewLimit,
+        slew: Option<f32>,
     },
     Close,
     Update {
@@ -50,183 +45,188 @@ pub enum Op {
     ReadTerms,
 }
 
-// What a call answers: y is an update's value, terms what `terms` reads. The numbers that a call does not give are +0,
-// and so are all of a refused answer.
-#[derive(Clone, Copy)]
-pub struct Answer {
-    pub refusal: Refusal,
+// What a call gives: y is an update's value, terms what `terms` reads. The numbers that a call does not give are +0, and
+// so are all of a refused call.
+#[derive(Clone, Copy, Default)]
+pub struct Reply {
     pub y: f32,
     pub terms: PidTerms,
 }
 
-// The lane after the call beside its answer.
+// What a call answers, and the lane or the bank after it.
 #[derive(Clone, Copy)]
-pub struct Stepped {
-    pub answer: Answer,
-    pub lane: Lane,
+pub struct Called<S> {
+    pub answer: Answer<Reply>,
+    pub state: S,
+}
+
+// An answer without numbers.
+#[tactic(auto, unfolding(rate_pid::specs::RatePid::zero_terms))]
+pub(crate) fn plain<S>(why: Option<Refusal>, state: S) -> Called<S>
+    ensures { result ≡ called (plain why) state }
+{
+    Called {
+        answer: answer_of(why, Reply::default()),
+        state,
+    }
 }
 
 // A controller's own setter, made on an open lane.
-fn after_setter(next: Changed) -> Stepped
+fn after_setter(next: Answer<RatePid>) -> Called<Lane>
     ensures { result ≡ after_setter next }
 {
-    let refusal = next.refusal;
-    let terms = PidTerms::default();
-    let answer = Answer {
-        refusal,
-        y: 0.0,
-        terms,
-    };
-    let pid = next.pid;
-    let lane = Lane { open: true, pid };
-    Stepped { answer, lane }
+    let why = refusal_of(&next);
+    plain(
+        why,
+        Lane {
+            open: true,
+            pid: given(next),
+        },
+    )
 }
 
-// An open lane with this controller, and nothing refused.
-fn open_with(pid: RatePid) -> Stepped
-    ensures { result ≡ open_with pid }
+// An update of the controller, made on an open lane.
+#[tactic(auto, unfolding(rate_pid::specs::RatePid::zero_terms))]
+fn after_update(next: Updated) -> Called<Lane>
+    ensures { result ≡ after_update next }
 {
-    let refusal = Refusal::None;
-    after_setter(Changed { refusal, pid })
+    let reply = Reply {
+        y: given(next.answer),
+        ..Reply::default()
+    };
+    Called {
+        answer: answer_of(refusal_of(&next.answer), reply),
+        state: Lane {
+            open: true,
+            pid: next.pid,
+        },
+    }
 }
 
 impl Lane {
     // Closed, its controller all zero.
+    #[tactic(auto, unfolding(crate::specs::Lane::closed_lane))]
     pub fn closed() -> Self
         ensures { result ≡ closed_lane }
     {
-        let pid = RatePid::zero();
-        Lane { open: false, pid }
+        Lane {
+            open: false,
+            pid: RatePid::zero(),
+        }
     }
 
-    // This lane as it is, and an answer without numbers.
-    fn plain_step(self, refusal: Refusal) -> Stepped
-        ensures { result ≡ plain_step refusal self }
-    {
-        let terms = PidTerms::default();
-        let answer = Answer {
-            refusal,
-            y: 0.0,
-            terms,
-        };
-        Stepped { answer, lane: self }
-    }
-
-    pub fn open(self, kp: f32, ki: f32, kd: f32, tau: f32, dt: f32, slew: SlewLimit) -> Stepped
+    // Kept: five numbers apart, as document 01's call takes them.
+    #[tactic(auto, unfolding(crate::specs::Lane::call_lane, crate::specs::Lane::when_good, crate::specs::Lane::opened))]
+    pub fn open(
+        self,
+        kp: f32,
+        ki: f32,
+        kd: f32,
+        tau: f32,
+        dt: f32,
+        slew: Option<f32>,
+    ) -> Called<Self>
         ensures { result ≡ call_lane self (Op.Open kp ki kd tau dt slew) }
     {
         if self.open {
-            return self.plain_step(Refusal::Open);
+            return plain(Some(Refusal::Open), self);
         }
-        let old = self.pid;
-        if old.bad() {
-            return self.plain_step(Refusal::Slew);
+        if self.pid.bad() {
+            return plain(Some(Refusal::Slew), self);
         }
         let made = RatePid::new(kp, ki, kd, tau, dt);
         match slew {
-            SlewLimit::Off => open_with(made),
-            SlewLimit::At(limit) => {
+            None => after_setter(Ok(made)),
+            Some(limit) => {
                 if filters::bad_limit(limit) {
-                    return self.plain_step(Refusal::Slew);
+                    return plain(Some(Refusal::Slew), self);
                 }
                 after_setter(made.slew(limit))
             }
         }
     }
 
-    pub fn close(self) -> Stepped
+    // A call on an open lane. A closed one is refused.
+    // Kept: it asks that the closure may be called, as the language wants it said.
+    fn when_open<F: FnOnce(RatePid) -> Called<Lane>>(self, call: F) -> Called<Self>
+        requires { F.IsAlwaysCallable call }
+        ensures opened { self.«open» ≡ true → F.post call self.pid result }
+        ensures shut { self.«open» ≡ false → result ≡ plain_step (Some Refusal.Closed) self }
+    {
+        if self.open {
+            call(self.pid)
+        } else {
+            plain(Some(Refusal::Closed), self)
+        }
+    }
+
+    #[tactic(auto, unfolding(crate::specs::Lane::call_lane, crate::specs::Lane::when_open, crate::specs::Lane::when_good))]
+    pub fn close(self) -> Called<Self>
         ensures { result ≡ call_lane self Op.Close }
     {
-        if self.open {
-            let old = self.pid;
-            if old.bad() {
-                return self.plain_step(Refusal::Slew);
+        self.when_open(|pid| {
+            if pid.bad() {
+                plain(Some(Refusal::Slew), self)
+            } else {
+                plain(None, Lane::closed())
             }
-            return Lane::closed().plain_step(Refusal::None);
-        }
-        self.plain_step(Refusal::Closed)
+        })
     }
 
-    pub fn update(self, reference: f32, measurement: f32, prediction: f32) -> Stepped
+    #[tactic(auto, unfolding(crate::specs::Lane::call_lane, crate::specs::Lane::when_open))]
+    pub fn update(self, reference: f32, measurement: f32, prediction: f32) -> Called<Self>
         ensures { result ≡ call_lane self (Op.Update reference measurement prediction) }
     {
-        if self.open {
-            let old = self.pid;
-            let next = old.update(reference, measurement, prediction);
-            let said = next.answer;
-            let refusal = said.refusal;
-            let terms = PidTerms::default();
-            let answer = Answer {
-                refusal,
-                y: said.y,
-                terms,
-            };
-            let pid = next.pid;
-            let lane = Lane { open: true, pid };
-            return Stepped { answer, lane };
-        }
-        self.plain_step(Refusal::Closed)
+        self.when_open(|pid| after_update(pid.update(reference, measurement, prediction)))
     }
 
-    pub fn set_ts(self, ts: f32) -> Stepped
+    #[tactic(auto, unfolding(crate::specs::Lane::call_lane, crate::specs::Lane::when_open))]
+    pub fn set_ts(self, ts: f32) -> Called<Self>
         ensures { result ≡ call_lane self (Op.SetTs ts) }
     {
-        if self.open {
-            let old = self.pid;
-            return after_setter(old.set_ts(ts));
-        }
-        self.plain_step(Refusal::Closed)
+        self.when_open(|pid| after_setter(pid.set_ts(ts)))
     }
 
-    pub fn set_gains(self, kp: f32, ki: f32, kd: f32) -> Stepped
+    #[tactic(auto, unfolding(crate::specs::Lane::call_lane, crate::specs::Lane::when_open))]
+    pub fn set_gains(self, kp: f32, ki: f32, kd: f32) -> Called<Self>
         ensures { result ≡ call_lane self (Op.SetGains kp ki kd) }
     {
-        if self.open {
-            let old = self.pid;
-            return after_setter(old.set_gains(kp, ki, kd));
-        }
-        self.plain_step(Refusal::Closed)
+        self.when_open(|pid| after_setter(pid.set_gains(kp, ki, kd)))
     }
 
-    pub fn enable_integral(self, enable: bool) -> Stepped
+    #[tactic(auto, unfolding(crate::specs::Lane::call_lane, crate::specs::Lane::when_open))]
+    pub fn enable_integral(self, enable: bool) -> Called<Self>
         ensures { result ≡ call_lane self (Op.EnableIntegral enable) }
     {
-        if self.open {
-            let old = self.pid;
-            return after_setter(old.enable_integral(enable));
-        }
-        self.plain_step(Refusal::Closed)
+        self.when_open(|pid| after_setter(pid.enable_integral(enable)))
     }
 
-    pub fn reset_integral(self) -> Stepped
+    #[tactic(auto, unfolding(crate::specs::Lane::call_lane, crate::specs::Lane::when_open))]
+    pub fn reset_integral(self) -> Called<Self>
         ensures { result ≡ call_lane self Op.ResetIntegral }
     {
-        if self.open {
-            let old = self.pid;
-            return after_setter(old.reset_integral());
-        }
-        self.plain_step(Refusal::Closed)
+        self.when_open(|pid| after_setter(pid.reset_integral()))
     }
 
-    pub fn terms(self) -> Stepped
+    #[tactic(auto, unfolding(crate::specs::Lane::call_lane, crate::specs::Lane::when_open))]
+    pub fn terms(self) -> Called<Self>
         ensures { result ≡ call_lane self Op.ReadTerms }
     {
-        if self.open {
-            let old = self.pid;
-            let read = old.get_terms();
-            let refusal = read.refusal;
-            let terms = read.terms;
-            let answer = Answer {
-                refusal,
-                y: 0.0,
-                terms,
-            };
-            return Stepped { answer, lane: self };
-        }
-        self.plain_step(Refusal::Closed)
+        self.when_open(|pid| self.after_read(pid.get_terms()))
     }
 
-    pub fn step(self, op: Op) -> Stepped
+    // The controller's terms, read on this lane.
+    fn after_read(self, read: Answer<PidTerms>) -> Called<Self>
+        ensures { result ≡ after_read self read }
+    {
+        let terms = given(read);
+        Called {
+            answer: answer_of(refusal_of(&read), Reply { y: 0.0, terms }),
+            state: self,
+        }
+    }
+
+    pub fn step(self, op: Op) -> Called<Self>
         ensures { result ≡ call_lane self op }
     {
         match op {

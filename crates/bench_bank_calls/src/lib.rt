@@ -10,14 +10,10 @@ ghost use Rattle.bench_bank_calls.specs.Calls.{bank_out_after};
 pub extern "C" fn plumradek_calls(settings: &[f32], cells: &[f32], out: &mut [f32])
     ensures { out.new ≡ bank_out_after settings.now cells.now (updates_in (length cells.now) (length out.old)) out.old }
 {
-    let n = bench_updates::updates_in(cells.len(), out.len());
     let mut bank = bench_rows::eight(settings);
-    let mut i = 0;
-    while i < n {
+    for i in 0..bench_updates::updates_in(cells.len(), out.len()) {
         let next = bank.update(i % 8, cells[i * 3], cells[i * 3 + 1], cells[i * 3 + 2]);
-        let answer = next.answer;
-        bank = next.bank;
-        out[i] = answer.y;
-        i += 1;
+        out[i] = refusal::given(next.answer).y;
+        bank = next.state;
     }
 }

@@ -1,12 +1,10 @@
 -- One notch over a run of samples; and notches of settings that lie in a run of numbers.
-use Rattle.std.specs.Prelude.{cond, List, ℕ, ◌+◌, Float, length, get_or}
+use Rattle.std.specs.Prelude.{List, ℕ, ◌+◌, Float, get_or}
 use Rattle.std.specs.Float.{nan}
-use Rattle.std.proofs.lemmas.List.Edits.{sets}
-use Rattle.lanes.specs.Runs.{answers}
 use Rattle.notch.specs.declared.notch_filter.NotchFilter.{NotchFilter}
 use Rattle.notch.specs.declared.notches.Notches.{Notches}
 use Rattle.notch.specs.NotchFilter.{new_notch_filter, notch_machine}
-use Rattle.notch.specs.Notches.{too_short}
+use Rattle.notch.specs.Samples.{written}
 
 -- of the four settings from a place on, NaN where one is missing
 unfoldable pub notch_from : List Float → ℕ → NotchFilter
@@ -17,4 +15,4 @@ notches_from s = record { first = notch_from s 0; second = notch_from s 4; third
 
 -- what the second run then holds: nothing is written where it is too short
 unfoldable pub notch_out : List Float → List Float → List Float → List Float
-notch_out settings samples out = cond (too_short (length out) samples) out (sets out 0 (answers notch_machine (notch_from settings 0) samples))
+notch_out settings samples out = written notch_machine (notch_from settings 0) samples out

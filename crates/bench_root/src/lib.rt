@@ -29,22 +29,15 @@ pub extern "C" fn plumradek_force_to_command(
 ) -> f32
     ensures { result ≡ command_for a b c_min c_max f_min f_max force }
 {
-    let c_min = Command(c_min);
-    let c_max = Command(c_max);
-    let f_min = Thrust(f_min);
-    let f_max = Thrust(f_max);
     let motor = MotorLin {
         a,
         b,
-        c_min,
-        c_max,
-        f_min,
-        f_max,
+        c_min: Command(c_min),
+        c_max: Command(c_max),
+        f_min: Thrust(f_min),
+        f_max: Thrust(f_max),
     };
-    let thrust = Thrust(force);
-    let answer = motor.force_to_command(thrust);
-    let command = answer.command;
-    command.0
+    refusal::given(motor.force_to_command(Thrust(force))).0
 }
 
 // The standard deviation of a state with this factor and this variance.
@@ -58,6 +51,5 @@ pub extern "C" fn plumradek_std_dev(alpha: f32, variance: f32) -> f32
         mean: 0.0,
         variance,
     };
-    let answer = state.std_dev();
-    answer.y
+    refusal::given(state.std_dev())
 }

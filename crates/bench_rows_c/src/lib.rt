@@ -1,4 +1,5 @@
 // What `bench_rows` has for C and Rust to link: a crate that others use as a library exports nothing itself, so its functions are called here.
+// Kept: a function for each number of lanes, since C calls each by its name.
 #![tactic(auto)]
 
 ghost use Rattle.std.specs.Prelude.{◌≡◌, length};

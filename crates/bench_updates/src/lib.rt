@@ -7,13 +7,15 @@ ghost use Rattle.bench_updates.specs.Updates.{new_of, updates_in, out_after};
 
 use rate_pid::RatePid;
 
+// Kept: `get` with `unwrap_or` was tried, and the search found no proof.
 pub fn setting(s: &[f32], i: usize) -> f32
     ensures { result ≡ get_or s.now i nan }
 {
-    if i < s.len() { s[i] } else { 0.0 / 0.0 }
+    if i < s.len() { s[i] } else { f32::NAN }
 }
 
 // A new controller of five settings, NaN where one is missing.
+#[tactic(auto, unfolding(crate::specs::Updates::new_of))]
 pub fn new(s: &[f32]) -> RatePid
     ensures { result ≡ new_of s.now }
 {
@@ -27,11 +29,11 @@ pub fn new(s: &[f32]) -> RatePid
 }
 
 // As many updates as there are whole threes of cells, and places for their answers.
+#[tactic(auto, using(std::proofs::lemmas::Bool::Decides::nat_tests), unfolding(crate::specs::Updates::updates_in))]
 pub fn updates_in(cells: usize, out: usize) -> usize
     ensures { result ≡ updates_in cells out }
 {
-    let whole = cells / 3;
-    if out < whole { out } else { whole }
+    out.min(cells / 3)
 }
 
 // The controller is given by value and handed back in each update.
@@ -39,14 +41,10 @@ pub fn updates_in(cells: usize, out: usize) -> usize
 pub extern "C" fn plumradek_updates(settings: &[f32], cells: &[f32], out: &mut [f32])
     ensures { out.new ≡ out_after settings.now cells.now (updates_in (length cells.now) (length out.old)) out.old }
 {
-    let n = updates_in(cells.len(), out.len());
     let mut pid = new(settings);
-    let mut i = 0;
-    while i < n {
+    for i in 0..updates_in(cells.len(), out.len()) {
         let next = pid.update(cells[i * 3], cells[i * 3 + 1], cells[i * 3 + 2]);
-        let answer = next.answer;
         pid = next.pid;
-        out[i] = answer.y;
-        i += 1;
+        out[i] = refusal::given(next.answer);
     }
 }

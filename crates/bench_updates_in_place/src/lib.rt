@@ -9,14 +9,12 @@ ghost use Rattle.bench_updates.specs.Updates.{updates_in, out_after};
 pub extern "C" fn plumradek_updates_in_place(settings: &[f32], cells: &[f32], out: &mut [f32])
     ensures { out.new ≡ out_after settings.now cells.now (updates_in (length cells.now) (length out.old)) out.old }
 {
-    let n = bench_updates::updates_in(cells.len(), out.len());
+    // Kept: a loop beside that of `bench_updates`. With one library for both no update is put into its caller, and each takes seven times as
+    // long (docs/DECISIONS.md).
     let mut pid = bench_updates::new(settings);
-    let mut i = 0;
-    while i < n {
+    for i in 0..bench_updates::updates_in(cells.len(), out.len()) {
         let next = rate_pid_in_place::update(pid, cells[i * 3], cells[i * 3 + 1], cells[i * 3 + 2]);
-        let answer = next.answer;
         pid = next.pid;
-        out[i] = answer.y;
-        i += 1;
+        out[i] = refusal::given(next.answer);
     }
 }

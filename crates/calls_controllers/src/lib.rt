@@ -1,18 +1,83 @@
 // The controllers: crates angle_pid and rate_pid.
 #![tactic(auto)]
 
-mod pid_calls;
-mod rate_pid_calls;
-pub mod states;
+use angle_pid::{Pid, PidUpdated};
+use calls_words::{Call, Reply};
+use rate_pid::{RatePid, Updated};
+use refusal::{Answer, answer_of, given, refusal_of};
 
-use calls_words::CallAnswer;
+// One of each, all-zero at the start.
+#[derive(Clone, Copy, Default)]
+pub struct Controllers {
+    pid: Pid,
+    rate_pid: RatePid,
+}
 
-pub fn answer_call(name: &[u8], ops: &[u32], states: &mut [u32], res: &mut [u32]) -> CallAnswer {
-    if calls_words::begins(name, b"rate_pid.") {
-        return rate_pid_calls::answer_call(name, ops, states, res);
+impl Controllers {
+    // Kept: alike in shape with the other parts, but each names its own states and calls.
+    pub fn answer(&mut self, call: Call<'_>) -> Reply {
+        let (state, call) = call.on_state()?;
+        match state {
+            b"pid" => on_pid(call, &mut self.pid),
+            b"rate_pid" => on_rate_pid(call, &mut self.rate_pid),
+            _ => None,
+        }
     }
-    if calls_words::begins(name, b"pid.") {
-        return pid_calls::answer_call(name, ops, states, res);
+}
+
+fn on_pid(call: Call<'_>, pid: &mut Pid) -> Reply {
+    let before = *pid;
+    match call.name {
+        b"new" => call.sets(pid, |((kp, ki, kd), ideal, ts)| {
+            Ok(Pid::new(kp, ki, kd, ideal, ts))
+        }),
+        b"with_config" => call.sets(pid, |(config, ts)| Pid::with_config(config, ts)),
+        b"set_wrapping" => call.sets(pid, |(min, max)| before.set_wrapping(min, max)),
+        b"set_output_limit" => call.sets(pid, |(min, max)| before.set_output_limit(min, max)),
+        b"set_anti_windup" => call.sets(pid, |(min, max)| before.set_anti_windup(min, max)),
+        b"set_lp_filter" => call.sets(pid, |tau| before.set_lp_filter(tau)),
+        b"set_gains" => call.sets(pid, |(kp, ki, kd)| before.set_gains(kp, ki, kd)),
+        b"reset_integral" => call.sets(pid, |()| before.reset_integral()),
+        b"reset_integral_to" => call.sets(pid, |integral| before.reset_integral_to(integral)),
+        b"enable_integral" => call.sets(pid, |enable| before.enable_integral(enable)),
+        b"enable_reset_integral" => call.sets(pid, |enable| before.enable_reset_integral(enable)),
+        b"update" => call.leaves(pid, |error| value_and_steps(before.update(error))),
+        b"update_ts" => call.leaves(pid, |(error, ts)| {
+            value_and_steps(before.update_ts(error, ts))
+        }),
+        _ => call.by_hand(pid),
     }
-    CallAnswer::NotOurs
+}
+
+fn value_and_steps(answer: Answer<PidUpdated>) -> (Answer<(f32, u32)>, Pid) {
+    let updated = given(answer);
+    let results = (updated.y, updated.steps);
+    (answer_of(refusal_of(&answer), results), updated.pid)
+}
+
+fn on_rate_pid(call: Call<'_>, pid: &mut RatePid) -> Reply {
+    let before = *pid;
+    match call.name {
+        b"new" => call.sets(pid, |(kp, ki, kd, (tau, dt))| {
+            Ok(RatePid::new(kp, ki, kd, tau, dt))
+        }),
+        b"slew" => call.sets(pid, |limit| before.slew(limit)),
+        b"set_ts" => call.sets(pid, |ts| before.set_ts(ts)),
+        b"set_gains" => call.sets(pid, |(kp, ki, kd)| before.set_gains(kp, ki, kd)),
+        b"enable_integral" => call.sets(pid, |enable| before.enable_integral(enable)),
+        b"reset_integral" => call.sets(pid, |()| before.reset_integral()),
+        b"enable_reset_integral" => call.sets(pid, |enable| before.enable_reset_integral(enable)),
+        b"update" => call.leaves(pid, |(reference, measurement, prediction)| {
+            value(before.update(reference, measurement, prediction))
+        }),
+        b"update_in_place" => call.leaves(pid, |(reference, measurement, prediction)| {
+            value(rate_pid_in_place::update(before, reference, measurement, prediction))
+        }),
+        b"get_terms" => call.answers(|()| before.get_terms()),
+        _ => call.by_hand(pid),
+    }
+}
+
+fn value(updated: Updated) -> (Answer<f32>, RatePid) {
+    (updated.answer, updated.pid)
 }

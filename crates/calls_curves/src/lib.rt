@@ -1,21 +1,26 @@
 // The curves, the table lookup and the frames: crates rates, linear_lut and airframe.
 #![tactic(auto)]
 
-mod frame_calls;
 mod rates_calls;
-mod table_calls;
 
-use calls_words::CallAnswer;
+use arrayvec::ArrayVec;
+use calls_words::{Call, Reply};
 
-pub fn answer_call(name: &[u8], ops: &[u32], res: &mut [u32]) -> CallAnswer {
-    if calls_words::begins(name, b"quad_") {
-        return frame_calls::answer_call(name, ops, res);
+// More points than a line has room for.
+const POINTS: usize = 224;
+
+pub fn answer(call: Call<'_>) -> Reply {
+    match call.name {
+        b"linear_lut" => call.answers(|(x, points): (f32, ArrayVec<f32, POINTS>)| {
+            linear_lut::get(points.as_slice(), x)
+        }),
+        b"quad_x_basic" => call.answers(|(x_dist, y_dist, reaction, outspin)| {
+            airframe::quad_x_basic(x_dist, y_dist, reaction, outspin)
+        }),
+        b"quad_p_basic" => call.answers(|(x_dist, y_dist, reaction, outspin)| {
+            airframe::quad_p_basic(x_dist, y_dist, reaction, outspin)
+        }),
+        b"dev_quad_motor_setup" => call.answers(|()| airframe::dev_quad_motor_setup()),
+        _ => rates_calls::answer(call),
     }
-    if calls_words::is(name, b"dev_quad_motor_setup", ops, 0) {
-        return frame_calls::answer_dev_quad(res);
-    }
-    if calls_words::same(name, b"linear_lut") {
-        return table_calls::answer_call(ops, res);
-    }
-    rates_calls::answer_call(name, ops, res)
 }

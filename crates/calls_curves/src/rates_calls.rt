@@ -1,130 +1,83 @@
 // Curves: crate rates.
-use calls_words::CallAnswer;
+use calls_words::{Call, Reply};
 use rates::expo_rates::{ExpoRates, RatesType};
 use rates::linear::Linear;
 use rates::rates as curve;
 use rates::rates::{Actual, Rates};
 
-pub(crate) fn answer_call(name: &[u8], ops: &[u32], res: &mut [u32]) -> CallAnswer {
-    if calls_words::begins(name, b"rates.") {
-        return of_rates(name, ops, res);
+pub(crate) fn answer(call: Call<'_>) -> Reply {
+    let (curve, call) = call.on_state()?;
+    match curve {
+        b"rates" => of_rates(call),
+        b"expo_rates" => of_expo_rates(call),
+        b"linear" => of_linear(call),
+        _ => None,
     }
-    if calls_words::begins(name, b"expo_rates.") {
-        return of_expo_rates(name, ops, res);
-    }
-    if calls_words::begins(name, b"linear.") {
-        return of_linear(name, ops, res);
-    }
-    CallAnswer::NotOurs
 }
 
-fn of_rates(name: &[u8], ops: &[u32], res: &mut [u32]) -> CallAnswer {
-    let a = calls_words::number(ops, 0);
-    let b = calls_words::number(ops, 1);
-    let c = calls_words::number(ops, 2);
-    let d = calls_words::number(ops, 3);
-    if calls_words::is(name, b"rates.identity", ops, 1) {
-        return calls_words::one(res, Rates::Identity.apply(a));
+fn of_rates(call: Call<'_>) -> Reply {
+    match call.name {
+        b"identity" => call.gives(|v| Rates::Identity.apply(v)),
+        b"actual" => {
+            call.gives(|(rate, expo, cent, v)| Rates::Actual { rate, expo, cent }.apply(v))
+        }
+        b"linear" => call.gives(|(fact, offs, v)| Rates::Linear { fact, offs }.apply(v)),
+        b"actual_default" => call.gives(|()| {
+            let actual = Actual::default();
+            (actual.rate, actual.expo, actual.cent)
+        }),
+        b"linear_default" => call.gives(|()| line_of(curve::Linear::default())),
+        b"linear_new" => call.gives(|(in_min, in_max, out_min, out_max)| {
+            line_of(curve::Linear::new(in_min, in_max, out_min, out_max))
+        }),
+        b"linear_set" => call.gives(|(in_min, in_max, out_min, out_max)| {
+            line_of(curve::Linear::default().set(in_min, in_max, out_min, out_max))
+        }),
+        b"linear_set_params" => call.gives(|(in_min, in_max, out_min, out_max)| {
+            line_of(curve::Linear::default().set_params(in_min, in_max, out_min, out_max))
+        }),
+        _ => None,
     }
-    if calls_words::is(name, b"rates.actual", ops, 4) {
-        return calls_words::one(
-            res,
-            Rates::Actual {
-                rate: a,
-                expo: b,
-                cent: c,
-            }
-            .apply(d),
-        );
-    }
-    if calls_words::is(name, b"rates.linear", ops, 3) {
-        return calls_words::one(res, Rates::Linear { fact: a, offs: b }.apply(c));
-    }
-    if calls_words::is(name, b"rates.actual_default", ops, 0) {
-        let x = Actual::default();
-        return three(res, x.rate, x.expo, x.cent);
-    }
-    if calls_words::is(name, b"rates.linear_default", ops, 0) {
-        let l = curve::Linear::default();
-        return two(res, l.fact, l.offs);
-    }
-    if calls_words::is(name, b"rates.linear_new", ops, 4) {
-        let l = curve::Linear::new(a, b, c, d);
-        return two(res, l.fact, l.offs);
-    }
-    if calls_words::is(name, b"rates.linear_set", ops, 4) {
-        let l = curve::Linear::default().set(a, b, c, d);
-        return two(res, l.fact, l.offs);
-    }
-    if calls_words::is(name, b"rates.linear_set_params", ops, 4) {
-        let l = curve::Linear::default().set_params(a, b, c, d);
-        return two(res, l.fact, l.offs);
-    }
-    CallAnswer::NotOurs
 }
 
-fn of_expo_rates(name: &[u8], ops: &[u32], res: &mut [u32]) -> CallAnswer {
-    let a = calls_words::number(ops, 0);
-    let b = calls_words::number(ops, 1);
-    let c = calls_words::number(ops, 2);
-    let v = calls_words::number(ops, 3);
-    if calls_words::is(name, b"expo_rates.default", ops, 0) {
-        let e = ExpoRates::default();
-        return three(res, e.expo, e.max_rates, e.center_sens);
-    }
-    if calls_words::is(name, b"expo_rates.actual", ops, 4) {
-        return calls_words::one(res, ExpoRates::new(RatesType::Actual, a, b, c).apply(v));
-    }
-    if calls_words::is(name, b"expo_rates.kiss", ops, 4) {
-        return calls_words::one(res, ExpoRates::new(RatesType::Kiss, a, b, c).apply(v));
-    }
-    CallAnswer::NotOurs
+fn line_of(line: curve::Linear) -> (f32, f32) {
+    (line.fact, line.offs)
 }
 
-fn of_linear(name: &[u8], ops: &[u32], res: &mut [u32]) -> CallAnswer {
-    let a = calls_words::number(ops, 0);
-    let b = calls_words::number(ops, 1);
-    let c = calls_words::number(ops, 2);
-    let d = calls_words::number(ops, 3);
-    if calls_words::is(name, b"linear.default", ops, 0) {
-        return params(res, Linear::default());
+fn of_expo_rates(call: Call<'_>) -> Reply {
+    match call.name {
+        b"default" => call.gives(|()| {
+            let rates = ExpoRates::default();
+            (rates.expo, rates.max_rates, rates.center_sens)
+        }),
+        b"actual" => call.gives(|(expo, max_rates, center_sens, v)| {
+            ExpoRates::new(RatesType::Actual, expo, max_rates, center_sens).apply(v)
+        }),
+        b"kiss" => call.gives(|(expo, max_rates, center_sens, v)| {
+            ExpoRates::new(RatesType::Kiss, expo, max_rates, center_sens).apply(v)
+        }),
+        _ => None,
     }
-    if calls_words::is(name, b"linear.new", ops, 4) {
-        return params(res, Linear::new(a, b, c, d));
-    }
-    if calls_words::is(name, b"linear.set", ops, 4) {
-        return params(res, Linear::default().set(a, b, c, d));
-    }
-    if calls_words::is(name, b"linear.set_params", ops, 4) {
-        return params(res, Linear::default().set_params(a, b, c, d));
-    }
-    if calls_words::is(name, b"linear.map", ops, 3) {
-        return calls_words::one(
-            res,
-            Linear {
-                factor: a,
-                offset: b,
-            }
-            .map(c),
-        );
-    }
-    CallAnswer::NotOurs
 }
 
-fn params(res: &mut [u32], l: Linear) -> CallAnswer {
-    let p = l.params();
-    two(res, p.0, p.1)
+fn of_linear(call: Call<'_>) -> Reply {
+    match call.name {
+        b"default" => call.gives(|()| params_of(Linear::default())),
+        b"new" => call.gives(|(in_min, in_max, out_min, out_max)| {
+            params_of(Linear::new(in_min, in_max, out_min, out_max))
+        }),
+        b"set" => call.gives(|(in_min, in_max, out_min, out_max)| {
+            params_of(Linear::default().set(in_min, in_max, out_min, out_max))
+        }),
+        b"set_params" => call.gives(|(in_min, in_max, out_min, out_max)| {
+            params_of(Linear::default().set_params(in_min, in_max, out_min, out_max))
+        }),
+        b"map" => call.gives(|(factor, offset, sig)| Linear { factor, offset }.map(sig)),
+        _ => None,
+    }
 }
 
-fn two(res: &mut [u32], a: f32, b: f32) -> CallAnswer {
-    calls_words::put_number(res, 0, a);
-    calls_words::put_number(res, 1, b);
-    CallAnswer::Given(0, 2)
-}
-
-fn three(res: &mut [u32], a: f32, b: f32, c: f32) -> CallAnswer {
-    calls_words::put_number(res, 0, a);
-    calls_words::put_number(res, 1, b);
-    calls_words::put_number(res, 2, c);
-    CallAnswer::Given(0, 3)
+fn params_of(line: Linear) -> (f32, f32) {
+    let params = line.params();
+    (params.0, params.1)
 }

@@ -1,42 +1,138 @@
 // The filters: crate filters.
 #![tactic(auto)]
 
-mod complementary_calls;
-mod highpass_calls;
-mod integrating_complementary_calls;
-mod integrating_highpass_calls;
-mod lowpass2_calls;
-mod lowpass_calls;
-mod moving_average_calls;
-mod slew_rate_calls;
-pub mod states;
+use calls_words::{Call, Operand, Reply, Shown};
+use filters::{
+    Complementary, Highpass, IntegratingComplementary, IntegratingHighpass, Lowpass, MovingAverage,
+    NthOrderLowpass, SlewRate,
+};
+use step::Stepped;
 
-use calls_words::CallAnswer;
+// One of each, all-zero at the start.
+#[derive(Clone, Copy, Default)]
+pub struct Filters {
+    lowpass: Lowpass,
+    lowpass2: NthOrderLowpass,
+    highpass: Highpass,
+    complementary: Complementary,
+    integrating_highpass: IntegratingHighpass,
+    integrating_complementary: IntegratingComplementary,
+    moving_average: MovingAverage,
+    slew_rate: SlewRate,
+}
 
-pub fn answer_call(name: &[u8], ops: &[u32], states: &mut [u32], res: &mut [u32]) -> CallAnswer {
-    if calls_words::begins(name, b"lowpass.") {
-        return lowpass_calls::answer_call(name, ops, states, res);
+impl Filters {
+    // Kept: alike in shape with the other parts, but each names its own states and calls.
+    pub fn answer(&mut self, call: Call<'_>) -> Reply {
+        let (state, call) = call.on_state()?;
+        match state {
+            b"lowpass" => on_filter(
+                call,
+                &mut self.lowpass,
+                Lowpass::new,
+                Lowpass::set_dt,
+                (b"set_tau", Lowpass::set_tau),
+                Lowpass::update,
+            ),
+            b"lowpass2" => on_filter(
+                call,
+                &mut self.lowpass2,
+                NthOrderLowpass::new,
+                NthOrderLowpass::set_dt,
+                (b"configure", NthOrderLowpass::configure),
+                NthOrderLowpass::update,
+            ),
+            b"highpass" => on_filter(
+                call,
+                &mut self.highpass,
+                Highpass::new,
+                Highpass::set_dt,
+                (b"set_tau", Highpass::set_tau),
+                Highpass::update,
+            ),
+            b"complementary" => on_filter(
+                call,
+                &mut self.complementary,
+                Complementary::new,
+                Complementary::set_dt,
+                (b"set_tau", Complementary::set_tau),
+                |filter, (low, high)| filter.update(low, high),
+            ),
+            b"integrating_highpass" => on_filter(
+                call,
+                &mut self.integrating_highpass,
+                IntegratingHighpass::new,
+                IntegratingHighpass::set_dt,
+                (b"set_tau", IntegratingHighpass::set_tau),
+                IntegratingHighpass::update,
+            ),
+            b"integrating_complementary" => on_filter(
+                call,
+                &mut self.integrating_complementary,
+                IntegratingComplementary::new,
+                IntegratingComplementary::set_dt,
+                (b"set_tau", IntegratingComplementary::set_tau),
+                |filter, (low, high)| filter.update(low, high),
+            ),
+            b"moving_average" => on_moving_average(call, &mut self.moving_average),
+            b"slew_rate" => on_slew_rate(call, &mut self.slew_rate),
+            _ => None,
+        }
     }
-    if calls_words::begins(name, b"lowpass2.") {
-        return lowpass2_calls::answer_call(name, ops, states, res);
+}
+
+// The calls that most filters have alike, but for the operands of `update`, and for the name of the one that sets tau.
+fn on_filter<
+    F: Operand + Shown,
+    X: Operand,
+    New: FnOnce(f32, f32) -> F + Drop,
+    SetDt: FnOnce(F, f32) -> F + Drop,
+    SetTau: FnOnce(F, f32) -> F + Drop,
+    Update: FnOnce(F, X) -> Stepped<F> + Drop,
+>(
+    call: Call<'_>,
+    filter: &mut F,
+    new: New,
+    set_dt: SetDt,
+    set_tau: (&'static [u8], SetTau),
+    update: Update,
+) -> Reply
+    requires news { New.IsAlwaysCallable new }
+    requires sets_dt { SetDt.IsAlwaysCallable set_dt }
+    requires sets_tau { SetTau.IsAlwaysCallable set_tau.1 }
+    requires updates { Update.IsAlwaysCallable update }
+{
+    let before = *filter;
+    let (sets_tau, set_tau) = set_tau;
+    if call.name == sets_tau {
+        return call.sets(filter, |tau| Ok(set_tau(before, tau)));
     }
-    if calls_words::begins(name, b"highpass.") {
-        return highpass_calls::answer_call(name, ops, states, res);
+    match call.name {
+        b"new" => call.sets(filter, |(tau, dt)| Ok(new(tau, dt))),
+        b"set_dt" => call.sets(filter, |dt| Ok(set_dt(before, dt))),
+        b"update" => call.steps(filter, |x| Ok(update(before, x))),
+        _ => call.by_hand(filter),
     }
-    if calls_words::begins(name, b"complementary.") {
-        return complementary_calls::answer_call(name, ops, states, res);
+}
+
+fn on_moving_average(call: Call<'_>, filter: &mut MovingAverage) -> Reply {
+    let before = *filter;
+    match call.name {
+        b"new" => call.sets(filter, MovingAverage::new),
+        b"new_with_value" => call.sets(filter, |(length, value)| {
+            MovingAverage::new_with_value(length, value)
+        }),
+        b"update" => call.steps(filter, |value| before.update(value)),
+        _ => call.by_hand(filter),
     }
-    if calls_words::begins(name, b"integrating_highpass.") {
-        return integrating_highpass_calls::answer_call(name, ops, states, res);
+}
+
+fn on_slew_rate(call: Call<'_>, filter: &mut SlewRate) -> Reply {
+    let before = *filter;
+    match call.name {
+        b"new" => call.sets(filter, |(limit, dt)| SlewRate::new(limit, dt)),
+        b"set_dt" => call.sets(filter, |dt| before.set_dt(dt)),
+        b"update" => call.steps(filter, |input| before.update(input)),
+        _ => call.by_hand(filter),
     }
-    if calls_words::begins(name, b"integrating_complementary.") {
-        return integrating_complementary_calls::answer_call(name, ops, states, res);
-    }
-    if calls_words::begins(name, b"moving_average.") {
-        return moving_average_calls::answer_call(name, ops, states, res);
-    }
-    if calls_words::begins(name, b"slew_rate.") {
-        return slew_rate_calls::answer_call(name, ops, states, res);
-    }
-    CallAnswer::NotOurs
 }

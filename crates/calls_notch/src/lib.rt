@@ -1,18 +1,87 @@
 // The notch, and three in a row: crate notch.
 #![tactic(auto)]
 
-mod notch_calls;
-mod notches_calls;
-mod states;
+use arrayvec::ArrayVec;
+use calls_words::{Call, Operand, Operands, Reply, Results};
+use notch::{NotchFilter, Notches};
+use refusal::{answer_of, given, refusal_of};
 
-use calls_words::CallAnswer;
+// One of each, all-zero at the start.
+#[derive(Clone, Copy, Default)]
+pub struct NotchStates {
+    notch: NotchFilter,
+    notches: Notches,
+}
 
-pub fn answer_call(name: &[u8], ops: &[u32], states: &mut [u32], res: &mut [u32]) -> CallAnswer {
-    if calls_words::begins(name, b"notch.") {
-        return notch_calls::answer_call(name, ops, states, res);
+impl NotchStates {
+    // Kept: alike in shape with the other parts, but each names its own states and calls.
+    pub fn answer(&mut self, call: Call<'_>) -> Reply {
+        let (state, call) = call.on_state()?;
+        match state {
+            b"notch" => on_notch(call, &mut self.notch),
+            b"notches" => on_notches(call, &mut self.notches),
+            _ => None,
+        }
     }
-    if calls_words::begins(name, b"notches.") {
-        return notches_calls::answer_call(name, ops, states, res);
+}
+
+fn on_notch(call: Call<'_>, notch: &mut NotchFilter) -> Reply {
+    let before = *notch;
+    match call.name {
+        b"new" => call.sets(notch, |settings| Ok(notch_of(settings))),
+        b"set_freq_center" => call.sets(notch, |(fc, t)| Ok(before.set_freq_center(fc, t))),
+        b"set_freq_bandwidth" => call.sets(notch, |fb| Ok(before.set_freq_bandwidth(fb))),
+        b"update" => call.steps(notch, |input| Ok(before.update(input))),
+        _ => call.by_hand(notch),
     }
-    CallAnswer::NotOurs
+}
+
+fn on_notches(call: Call<'_>, notches: &mut Notches) -> Reply {
+    match call.name {
+        b"new" => call.sets(notches, |(first, second, third)| {
+            Ok(Notches {
+                first: notch_of(first),
+                second: notch_of(second),
+                third: notch_of(third),
+            })
+        }),
+        b"run" => run(call, notches),
+        _ => call.by_hand(notches),
+    }
+}
+
+fn notch_of((fc, fb, dt, t): (f32, f32, f32, f32)) -> NotchFilter {
+    NotchFilter::new(fc, fb, dt, t)
+}
+
+// The most samples of a run, and the most room of the second run.
+const LONGEST: usize = 64;
+
+// The second run: an operand tells its room, and it is full of 42 before the call.
+#[derive(Drop)]
+struct SecondRun {
+    numbers: ArrayVec<f32, LONGEST>,
+}
+
+impl Operand for SecondRun {
+    fn read(operands: &mut Operands<'_>) -> Option<SecondRun> {
+        let room: usize = operands.read()?;
+        if room > LONGEST {
+            return None;
+        }
+        let mut numbers = ArrayVec::new();
+        for _ in 0..room {
+            let _ = numbers.try_push(42.0);
+        }
+        Some(SecondRun { numbers })
+    }
+}
+
+// The results are the second run as it stands after the call, refused or not.
+fn run(call: Call<'_>, notches: &mut Notches) -> Reply {
+    let (second, samples): (SecondRun, ArrayVec<f32, LONGEST>) = call.operands.all()?;
+    let mut out = second.numbers;
+    let answer = notches.run(samples.as_slice(), out.as_mut_slice());
+    *notches = given(answer);
+    Some(answer_of(refusal_of(&answer), Results::of(out.as_slice())))
 }

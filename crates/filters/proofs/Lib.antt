@@ -1,3 +1,2 @@
 -- What the functions' proofs share.
 pub mod SwitchedOff
-mod Turns

@@ -23,7 +23,7 @@ ZeroSum s = Off s.lp_filter × (finite s.hp_filter.alpha ≡ false)
 
 -- with such a high pass no answer is finite, and that stays so
 pub never_finite : (s : Complementary) (l h : Float) → finite s.hp_filter.alpha ≡ false
-    → (finite (step_complementary s l h).y ≡ false) × (finite (step_complementary s l h).filter.hp_filter.alpha ≡ false)
+    → (finite (step_complementary s l h).y ≡ false) × (finite (step_complementary s l h).state.hp_filter.alpha ≡ false)
 unfolding step_complementary step_highpass
 never_finite s l h a =
     let p = s.hp_filter in
@@ -39,7 +39,7 @@ pub new_nan : (tau dt : Float) → eq (tau +f dt) F.zero ≡ true → AnswersNan
 unfolding new_complementary new_highpass highpass_of
 new_nan tau dt h = nonfinite_mul_zero _ (div-zero tau (tau +f dt) h)
 
-pub nan_for_good : (s : Complementary) (l h : Float) → AnswersNan s → ((step_complementary s l h).y ≡ nan) × AnswersNan (step_complementary s l h).filter
+pub nan_for_good : (s : Complementary) (l h : Float) → AnswersNan s → ((step_complementary s l h).y ≡ nan) × AnswersNan (step_complementary s l h).state
 unfolding step_complementary step_highpass
 nan_for_good s l h a =
     let p = s.hp_filter in

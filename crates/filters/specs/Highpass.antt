@@ -3,7 +3,7 @@ use Rattle.std.specs.Prelude.{Float}
 use Rattle.float.specs.F32 as F
 use Rattle.float.specs.F32.{◌+f◌, ◌-f◌, ◌*f◌, ◌/f◌}
 use Rattle.filters.specs.declared.highpass.Highpass.{Highpass}
-use Rattle.filters.specs.declared.highpass.Highpassed.{Highpassed}
+use Rattle.step.specs.declared.Stepped.{Stepped}
 
 -- the filter for tau and dt that last gave y, of x_prev
 unfoldable pub highpass_of : Float → Float → Float → Float → Highpass
@@ -18,7 +18,7 @@ set_dt_highpass s dt = highpass_of s.tau dt s.y s.x_prev
 unfoldable pub set_tau_highpass : Highpass → Float → Highpass
 set_tau_highpass s tau = highpass_of tau s.dt s.y s.x_prev
 
-unfoldable pub step_highpass : Highpass → Float → Highpassed
+unfoldable pub step_highpass : Highpass → Float → Stepped Highpass
 step_highpass s x =
     let y = s.alpha *f s.y +f s.alpha *f (x -f s.x_prev) in
-    record { y = y; filter = record { tau = s.tau; dt = s.dt; y = y; x_prev = x; alpha = s.alpha } }
+    record { y = y; state = record { tau = s.tau; dt = s.dt; y = y; x_prev = x; alpha = s.alpha } }

@@ -3,7 +3,7 @@ use Rattle.std.specs.Prelude.{Float}
 use Rattle.float.specs.F32 as F
 use Rattle.float.specs.F32.{◌+f◌, ◌*f◌}
 use Rattle.filters.specs.declared.integrating_highpass.IntegratingHighpass.{IntegratingHighpass}
-use Rattle.filters.specs.declared.integrating_highpass.IntegratingHighpassed.{IntegratingHighpassed}
+use Rattle.step.specs.declared.Stepped.{Stepped}
 use Rattle.filters.specs.Integrating.{integrating_alpha}
 
 unfoldable pub new_integrating_highpass : Float → Float → IntegratingHighpass
@@ -15,7 +15,7 @@ set_dt_integrating_highpass s dt = record { tau = s.tau; dt = s.dt; alpha = inte
 unfoldable pub set_tau_integrating_highpass : IntegratingHighpass → Float → IntegratingHighpass
 set_tau_integrating_highpass s tau = record { tau = s.tau; dt = s.dt; alpha = integrating_alpha tau s.dt; y_prev = s.y_prev }
 
-unfoldable pub step_integrating_highpass : IntegratingHighpass → Float → IntegratingHighpassed
+unfoldable pub step_integrating_highpass : IntegratingHighpass → Float → Stepped IntegratingHighpass
 step_integrating_highpass s x =
     let y = (x *f s.dt +f s.y_prev) *f s.alpha in
-    record { y = y; filter = record { tau = s.tau; dt = s.dt; alpha = s.alpha; y_prev = y } }
+    record { y = y; state = record { tau = s.tau; dt = s.dt; alpha = s.alpha; y_prev = y } }

@@ -4,7 +4,7 @@ use Rattle.std.specs.Float.Ieee.{eq}
 use Rattle.float.specs.F32 as F
 use Rattle.float.specs.F32.{◌+f◌, ◌-f◌, ◌*f◌, ◌/f◌}
 use Rattle.filters.specs.declared.lowpass.Lowpass.{Lowpass}
-use Rattle.filters.specs.declared.lowpass.Lowpassed.{Lowpassed}
+use Rattle.step.specs.declared.Stepped.{Stepped}
 
 -- dt/(tau+dt), and 1 where tau+dt is zero (request W4; −0 is equal to zero too)
 unfoldable pub alpha0_of : Float → Float → Float
@@ -25,7 +25,7 @@ set_dt_lowpass s dt = lowpass_of s.tau dt s.y
 unfoldable pub set_tau_lowpass : Lowpass → Float → Lowpass
 set_tau_lowpass s tau = lowpass_of tau s.dt s.y
 
-unfoldable pub step_lowpass : Lowpass → Float → Lowpassed
+unfoldable pub step_lowpass : Lowpass → Float → Stepped Lowpass
 step_lowpass s x =
     let y = s.alpha0 *f x +f s.alpha1 *f s.y in
-    record { y = y; filter = record { tau = s.tau; dt = s.dt; y = y; alpha0 = s.alpha0; alpha1 = s.alpha1 } }
+    record { y = y; state = record { tau = s.tau; dt = s.dt; y = y; alpha0 = s.alpha0; alpha1 = s.alpha1 } }

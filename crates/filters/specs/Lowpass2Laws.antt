@@ -66,17 +66,17 @@ module _ (s : NthOrderLowpass) (x : Float) where
   pub passes2 : Passing2 s → T (fits binary32 x) → is_nan x ≡ false → eq (step_lowpass2 s x).y x ≡ true
   passes2 ((off, h), (off', k)) p n = rw (off2_answers (off, off') p) (passed-twice x s.first.y s.second.y p h k n)
 
-  pub goes_on2 : Passing2 s → T (fits binary32 x) → finite x ≡ true → Passing2 (step_lowpass2 s x).filter
+  pub goes_on2 : Passing2 s → T (fits binary32 x) → finite x ≡ true → Passing2 (step_lowpass2 s x).state
   unfolding step_lowpass2
   goes_on2 (one, two) p k = (goes_on s.first x one p k, goes_on s.second (step_lowpass s.first x).y two first_fits (answer_finite s.first x one p ∙ k))
 
-  pub becomes_lost2 : Passing2 s → T (fits binary32 x) → finite x ≡ false → Lost2 (step_lowpass2 s x).filter
+  pub becomes_lost2 : Passing2 s → T (fits binary32 x) → finite x ≡ false → Lost2 (step_lowpass2 s x).state
   unfolding step_lowpass2
   becomes_lost2 (one, two) p k =
       let lost = becomes_lost s.first x one p k in
       ((lost.0, (off_leaves s.second two.0 (step_lowpass s.first x).y).0), inl lost.1)
 
-  pub stays_lost2 : Lost2 s → ((step_lowpass2 s x).y ≡ nan) × Lost2 (step_lowpass2 s x).filter
+  pub stays_lost2 : Lost2 s → ((step_lowpass2 s x).y ≡ nan) × Lost2 (step_lowpass2 s x).state
   unfolding step_lowpass2
   stays_lost2 ((off, off'), inl h) =
       let y = (step_lowpass s.first x).y in

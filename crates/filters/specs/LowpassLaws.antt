@@ -52,7 +52,7 @@ module _ (s : Lowpass) (off : Off s) where
   off_answers x p = rw (off.0, off.1) (weighed x s.y p)
 
   -- it stays off, and its answer is what it goes on from
-  pub off_leaves : (x : Float) → Off (step_lowpass s x).filter × ((step_lowpass s x).filter.y ≡ (step_lowpass s x).y)
+  pub off_leaves : (x : Float) → Off (step_lowpass s x).state × ((step_lowpass s x).state.y ≡ (step_lowpass s x).y)
   unfolding step_lowpass
   off_leaves x = (off, refl)
 
@@ -115,7 +115,7 @@ unfolding new_lowpass lowpass_of of_bits
 new_passing tau dt off = (off, refl)
 
 -- an update leaves all but the last answer, so that the setters find tau and dt as they were
-pub step_keeps : (s : Lowpass) (x : Float) → (step_lowpass s x).filter ≡ record { tau = s.tau; dt = s.dt; y = (step_lowpass s x).y; alpha0 = s.alpha0; alpha1 = s.alpha1 }
+pub step_keeps : (s : Lowpass) (x : Float) → (step_lowpass s x).state ≡ record { tau = s.tau; dt = s.dt; y = (step_lowpass s x).y; alpha0 = s.alpha0; alpha1 = s.alpha1 }
 unfolding step_lowpass
 step_keeps s x = refl
 
@@ -126,17 +126,17 @@ passes s x (off, h) p n = rw (off_answers s off x p) (passed_equal x s.y p h n)
 pub answer_finite : (s : Lowpass) (x : Float) → Passing s → T (fits binary32 x) → finite (step_lowpass s x).y ≡ finite x
 answer_finite s x (off, h) p = ap finite (off_answers s off x p) ∙ passed_finite x s.y h
 
-pub goes_on : (s : Lowpass) (x : Float) → Passing s → T (fits binary32 x) → finite x ≡ true → Passing (step_lowpass s x).filter
+pub goes_on : (s : Lowpass) (x : Float) → Passing s → T (fits binary32 x) → finite x ≡ true → Passing (step_lowpass s x).state
 unfolding step_lowpass
 goes_on s x (off, h) p k = (off, answer_finite s x (off, h) p ∙ k)
 
 -- an infinity passes once, as NaN does, and is kept
-pub becomes_lost : (s : Lowpass) (x : Float) → Passing s → T (fits binary32 x) → finite x ≡ false → Lost (step_lowpass s x).filter
+pub becomes_lost : (s : Lowpass) (x : Float) → Passing s → T (fits binary32 x) → finite x ≡ false → Lost (step_lowpass s x).state
 unfolding step_lowpass
 becomes_lost s x (off, h) p k = (off, answer_finite s x (off, h) p ∙ k)
 
 -- once an infinity or NaN has been fed, every later answer is NaN
-pub stays_lost : (s : Lowpass) (x : Float) → Lost s → ((step_lowpass s x).y ≡ nan) × Lost (step_lowpass s x).filter
+pub stays_lost : (s : Lowpass) (x : Float) → Lost s → ((step_lowpass s x).y ≡ nan) × Lost (step_lowpass s x).state
 unfolding step_lowpass
 stays_lost s x (off, h) =
     let n : s.alpha0 *f x +f s.alpha1 *f s.y ≡ nan = rw (off.1, zero_mul_nonfinite s.y h) (add_nan (s.alpha0 *f x)) in

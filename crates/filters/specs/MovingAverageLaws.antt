@@ -1,5 +1,5 @@
 -- What the window's calls answer for a bad window, and for a good one. Assumes nothing.
-use Rattle.std.specs.Prelude.{◌≡◌, true, false, ℕ, ◌≤◌, ltb, Float}
+use Rattle.std.specs.Prelude.{◌≡◌, true, false, ℕ, ◌≤◌, ltb, Some, None, Float}
 use Rattle.std.proofs.Math.Path.{refl}
 use Rattle.std.proofs.Common.{ltb-false}
 use Rattle.lemmas.specs.Cases.{of_both, neither}
@@ -14,11 +14,11 @@ unfolding bad_length
 length_fits length g = ltb-false 16 length (neither (ltb length 1) (ltb 16 length) g).1
 
 module _ (length : ℕ) (value : Float) where
-  pub new_average_refused : bad_length length ≡ true → call_new_with_value_moving_average length value ≡ made_moving_average Refusal.Window (new_with_value_moving_average 0 F.zero)
+  pub new_average_refused : bad_length length ≡ true → call_new_with_value_moving_average length value ≡ made_moving_average (Some Refusal.Window) (new_with_value_moving_average 0 F.zero)
   unfolding call_new_with_value_moving_average
   new_average_refused b = simp b
 
-  pub new_average_accepted : bad_length length ≡ false → call_new_with_value_moving_average length value ≡ made_moving_average Refusal.None (new_with_value_moving_average length value)
+  pub new_average_accepted : bad_length length ≡ false → call_new_with_value_moving_average length value ≡ made_moving_average None (new_with_value_moving_average length value)
   unfolding call_new_with_value_moving_average
   new_average_accepted g = simp g
 
@@ -31,10 +31,10 @@ module _ (s : MovingAverage) where
   unfolding window_store
   store_length value = of_both (λ (m : MovingAverage). m.length ≡ s.length) (ltb s.head s.length) _ _ refl refl
 
-  pub update_average_refused : (value : Float) → bad_window s ≡ true → call_update_moving_average s value ≡ updated_moving_average Refusal.Window F.zero s
+  pub update_average_refused : (value : Float) → bad_window s ≡ true → call_update_moving_average s value ≡ updated_moving_average (Some Refusal.Window) F.zero s
   unfolding call_update_moving_average
   update_average_refused value b = simp b
 
-  pub update_average_accepted : (value : Float) → bad_window s ≡ false → call_update_moving_average s value ≡ updated_moving_average Refusal.None (window_mean (window_store s value)) (window_store s value)
+  pub update_average_accepted : (value : Float) → bad_window s ≡ false → call_update_moving_average s value ≡ updated_moving_average None (window_mean (window_store s value)) (window_store s value)
   unfolding call_update_moving_average
   update_average_accepted value g = simp g

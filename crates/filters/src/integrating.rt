@@ -2,6 +2,7 @@
 ghost use Rattle.std.specs.Prelude.{◌≡◌};
 ghost use Rattle.filters.specs.Integrating.{integrating_alpha};
 
+#[tactic(auto, unfolding(crate::specs::Integrating::integrating_alpha))]
 pub fn alpha(tau: f32, dt: f32) -> f32
     ensures { result ≡ integrating_alpha tau dt }
 {

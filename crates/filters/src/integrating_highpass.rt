@@ -4,8 +4,11 @@ ghost use Rattle.std.specs.Prelude.{◌≡◌};
 ghost use Rattle.filters.specs.IntegratingHighpass.{new_integrating_highpass, set_dt_integrating_highpass, set_tau_integrating_highpass, step_integrating_highpass};
 
 use crate::integrating;
+use step::Stepped;
 
-#[derive(Clone, Copy)]
+// Kept: IntegratingHighpass and IntegratingComplementary have the same fields and setters. Each is a type of its own that is
+// built by hand, with an `update` of its own; a trait with the setters would ask for its fields' names, and be no shorter.
+#[derive(Clone, Copy, Default)]
 pub struct IntegratingHighpass {
     pub tau: f32,
     pub dt: f32,
@@ -13,44 +16,42 @@ pub struct IntegratingHighpass {
     pub y_prev: f32,
 }
 
-#[derive(Clone, Copy)]
-pub struct IntegratingHighpassed {
-    pub y: f32,
-    pub filter: IntegratingHighpass,
-}
-
+#[tactic(auto, unfolding(crate::specs::IntegratingHighpass::new_integrating_highpass, crate::specs::IntegratingHighpass::set_dt_integrating_highpass, crate::specs::IntegratingHighpass::set_tau_integrating_highpass, crate::specs::IntegratingHighpass::step_integrating_highpass))]
 impl IntegratingHighpass {
     pub fn new(tau: f32, dt: f32) -> Self
         ensures { result ≡ new_integrating_highpass tau dt }
     {
-        let alpha = integrating::alpha(tau, dt);
         IntegratingHighpass {
             tau,
             dt,
-            alpha,
+            alpha: integrating::alpha(tau, dt),
             y_prev: 0.0,
         }
     }
 
-    pub fn update(mut self, x: f32) -> IntegratingHighpassed
+    pub fn update(self, x: f32) -> Stepped<IntegratingHighpass>
         ensures { result ≡ step_integrating_highpass self x }
     {
         let y = (x * self.dt + self.y_prev) * self.alpha;
-        self.y_prev = y;
-        IntegratingHighpassed { y, filter: self }
+        let state = IntegratingHighpass { y_prev: y, ..self };
+        Stepped { y, state }
     }
 
-    pub fn set_dt(mut self, dt: f32) -> Self
+    pub fn set_dt(self, dt: f32) -> Self
         ensures { result ≡ set_dt_integrating_highpass self dt }
     {
-        self.alpha = integrating::alpha(self.tau, dt);
-        self
+        IntegratingHighpass {
+            alpha: integrating::alpha(self.tau, dt),
+            ..self
+        }
     }
 
-    pub fn set_tau(mut self, tau: f32) -> Self
+    pub fn set_tau(self, tau: f32) -> Self
         ensures { result ≡ set_tau_integrating_highpass self tau }
     {
-        self.alpha = integrating::alpha(tau, self.dt);
-        self
+        IntegratingHighpass {
+            alpha: integrating::alpha(tau, self.dt),
+            ..self
+        }
     }
 }

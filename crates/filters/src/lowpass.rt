@@ -2,7 +2,9 @@
 ghost use Rattle.std.specs.Prelude.{◌≡◌};
 ghost use Rattle.filters.specs.Lowpass.{alpha0_of, lowpass_of, new_lowpass, set_dt_lowpass, set_tau_lowpass, step_lowpass};
 
-#[derive(Clone, Copy)]
+use step::Stepped;
+
+#[derive(Clone, Copy, Default)]
 pub struct Lowpass {
     pub y: f32,
     pub alpha0: f32,
@@ -11,13 +13,8 @@ pub struct Lowpass {
     pub dt: f32,
 }
 
-#[derive(Clone, Copy)]
-pub struct Lowpassed {
-    pub y: f32,
-    pub filter: Lowpass,
-}
-
 // Where tau + dt is zero, the quotient would be NaN or an infinity.
+#[tactic(auto, unfolding(crate::specs::Lowpass::alpha0_of))]
 fn alpha0(tau: f32, dt: f32) -> f32
     ensures { result ≡ alpha0_of tau dt }
 {
@@ -25,45 +22,46 @@ fn alpha0(tau: f32, dt: f32) -> f32
     if sum == 0.0 { 1.0 } else { dt / sum }
 }
 
-// The one place that makes the coefficients.
-fn with(tau: f32, dt: f32, y: f32) -> Lowpass
-    ensures { result ≡ lowpass_of tau dt y }
-{
-    let alpha0 = alpha0(tau, dt);
-    let alpha1 = 1.0 - alpha0;
-    Lowpass {
-        tau,
-        dt,
-        y,
-        alpha0,
-        alpha1,
-    }
-}
-
+#[tactic(auto, unfolding(crate::specs::Lowpass::lowpass_of, crate::specs::Lowpass::new_lowpass, crate::specs::Lowpass::set_dt_lowpass, crate::specs::Lowpass::set_tau_lowpass, crate::specs::Lowpass::step_lowpass))]
 impl Lowpass {
+    // The one place that makes the coefficients.
+    fn with(tau: f32, dt: f32, y: f32) -> Self
+        ensures { result ≡ lowpass_of tau dt y }
+    {
+        let alpha0 = alpha0(tau, dt);
+        let alpha1 = 1.0 - alpha0;
+        Lowpass {
+            tau,
+            dt,
+            y,
+            alpha0,
+            alpha1,
+        }
+    }
+
     pub fn new(tau: f32, dt: f32) -> Self
         ensures { result ≡ new_lowpass tau dt }
     {
-        with(tau, dt, 0.0)
+        Lowpass::with(tau, dt, 0.0)
     }
 
     pub fn set_dt(self, dt: f32) -> Self
         ensures { result ≡ set_dt_lowpass self dt }
     {
-        with(self.tau, dt, self.y)
+        Lowpass::with(self.tau, dt, self.y)
     }
 
     pub fn set_tau(self, tau: f32) -> Self
         ensures { result ≡ set_tau_lowpass self tau }
     {
-        with(tau, self.dt, self.y)
+        Lowpass::with(tau, self.dt, self.y)
     }
 
-    pub fn update(mut self, x: f32) -> Lowpassed
+    pub fn update(self, x: f32) -> Stepped<Lowpass>
         ensures { result ≡ step_lowpass self x }
     {
         let y = self.alpha0 * x + self.alpha1 * self.y;
-        self.y = y;
-        Lowpassed { y, filter: self }
+        let state = Lowpass { y, ..self };
+        Stepped { y, state }
     }
 }

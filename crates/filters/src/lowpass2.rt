@@ -3,61 +3,53 @@ ghost use Rattle.std.specs.Prelude.{◌≡◌};
 ghost use Rattle.filters.specs.Lowpass2.{new_lowpass2, set_dt_lowpass2, configure_lowpass2, step_lowpass2};
 
 use crate::lowpass::Lowpass;
+use step::Stepped;
 
-#[derive(Clone, Copy)]
+#[derive(Clone, Copy, Default)]
 pub struct NthOrderLowpass {
     pub first: Lowpass,
     pub second: Lowpass,
 }
 
-#[derive(Clone, Copy)]
-pub struct NthOrderLowpassed {
-    pub y: f32,
-    pub filter: NthOrderLowpass,
-}
-
+#[tactic(auto, unfolding(crate::specs::Lowpass2::new_lowpass2, crate::specs::Lowpass2::set_dt_lowpass2, crate::specs::Lowpass2::configure_lowpass2, crate::specs::Lowpass2::step_lowpass2))]
 impl NthOrderLowpass {
     pub fn new(tau: f32, dt: f32) -> Self
         ensures { result ≡ new_lowpass2 tau dt }
     {
-        let first = Lowpass::new(tau, dt);
-        let second = Lowpass::new(tau, dt);
-        NthOrderLowpass { first, second }
+        NthOrderLowpass {
+            first: Lowpass::new(tau, dt),
+            second: Lowpass::new(tau, dt),
+        }
     }
 
     pub fn set_dt(self, dt: f32) -> Self
         ensures { result ≡ set_dt_lowpass2 self dt }
     {
-        let a = self.first;
-        let b = self.second;
-        let first = a.set_dt(dt);
-        let second = b.set_dt(dt);
-        NthOrderLowpass { first, second }
+        NthOrderLowpass {
+            first: self.first.set_dt(dt),
+            second: self.second.set_dt(dt),
+        }
     }
 
     // The Rust's name for setting tau here.
     pub fn configure(self, tau: f32) -> Self
         ensures { result ≡ configure_lowpass2 self tau }
     {
-        let a = self.first;
-        let b = self.second;
-        let first = a.set_tau(tau);
-        let second = b.set_tau(tau);
-        NthOrderLowpass { first, second }
+        NthOrderLowpass {
+            first: self.first.set_tau(tau),
+            second: self.second.set_tau(tau),
+        }
     }
 
-    pub fn update(self, x: f32) -> NthOrderLowpassed
+    pub fn update(self, x: f32) -> Stepped<NthOrderLowpass>
         ensures { result ≡ step_lowpass2 self x }
     {
-        let a = self.first;
-        let b = self.second;
-        let one = a.update(x);
-        let two = b.update(one.y);
-        let first = one.filter;
-        let second = two.filter;
-        NthOrderLowpassed {
-            y: two.y,
-            filter: NthOrderLowpass { first, second },
-        }
+        let one = self.first.update(x);
+        let two = self.second.update(one.y);
+        let state = NthOrderLowpass {
+            first: one.state,
+            second: two.state,
+        };
+        Stepped { y: two.y, state }
     }
 }

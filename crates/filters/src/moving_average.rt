@@ -3,37 +3,23 @@
 ghost use Rattle.std.specs.Prelude.{◌≡◌, ◌≤◌};
 ghost use Rattle.filters.specs.MovingAverage.{bad_length, bad_window, new_with_value_moving_average, window_store, window_mean, call_new_moving_average, call_new_with_value_moving_average, call_update_moving_average};
 
-use refusal::Refusal;
+use refusal::{Answer, Refusal};
+use step::Stepped;
 
-#[derive(Clone, Copy)]
+// Kept: the length stands beside the slots, and no ghost field bounds it, since lengths of 0 and 17 are to be refused and not
+// ruled out.
+#[derive(Clone, Copy, Default)]
 pub struct MovingAverage {
     pub length: usize,
     pub head: usize,
     pub slots: [f32; 16],
 }
 
-// What a constructor gives: refused, the all-zero state.
-#[derive(Clone, Copy)]
-pub struct MovingAverageMade {
-    pub refusal: Refusal,
-    pub filter: MovingAverage,
-}
-
-// What an update gives: refused, y is +0 and the state is as it was.
-#[derive(Clone, Copy)]
-pub struct MovingAveraged {
-    pub refusal: Refusal,
-    pub y: f32,
-    pub filter: MovingAverage,
-}
-
+#[tactic(auto, unfolding(crate::specs::MovingAverage::bad_length))]
 fn bad_length(length: usize) -> bool
     ensures { result ≡ bad_length length }
 {
-    if length < 1 {
-        return true;
-    }
-    16 < length
+    length < 1 || 16 < length
 }
 
 // A new window. One of length 0 is the all-zero state.
@@ -42,11 +28,7 @@ fn filled(length: usize, value: f32) -> MovingAverage
     ensures { result ≡ new_with_value_moving_average length value }
 {
     let mut slots = [0.0f32; 16];
-    let mut i = 0;
-    while i < length {
-        slots[i] = value;
-        i += 1;
-    }
+    slots[..length].fill(value);
     MovingAverage {
         length,
         head: 0,
@@ -55,88 +37,78 @@ fn filled(length: usize, value: f32) -> MovingAverage
 }
 
 impl MovingAverage {
+    #[tactic(auto, unfolding(crate::specs::MovingAverage::bad_window))]
     fn bad(self) -> bool
         ensures { result ≡ bad_window self }
     {
-        if bad_length(self.length) {
-            return true;
-        }
-        self.length < self.head
+        bad_length(self.length) || self.length < self.head
     }
 
     // The value goes to the head's slot; after the last slot, to slot 0, and there the head stays, so that the next
     // value goes to slot 0 again.
+    #[tactic(auto, unfolding(crate::specs::MovingAverage::window_store))]
     fn store(self, value: f32) -> Self
         requires { self.length ≤ 16 }
         ensures { result ≡ window_store self value }
     {
-        let length = self.length;
-        let head = self.head;
         let mut slots = self.slots;
-        if head < length {
-            slots[head] = value;
+        if self.head < self.length {
+            slots[self.head] = value;
             return MovingAverage {
-                length,
-                head: head + 1,
+                head: self.head + 1,
                 slots,
+                ..self
             };
         }
         slots[0] = value;
         MovingAverage {
-            length,
             head: 0,
             slots,
+            ..self
         }
     }
 
+    #[tactic(auto, unfolding(crate::specs::MovingAverage::window_mean))]
     fn mean(self) -> f32
         requires { self.length ≤ 16 }
         ensures { result ≡ window_mean self }
     {
-        let length = self.length;
         let slots = self.slots;
-        let mut sum = 0.0f32;
-        let mut i = 0;
-        while i < length {
-            sum = sum + slots[i];
-            i += 1;
-        }
-        sum / (length as f32)
+        let sum = slots[..self.length].iter().fold(0.0f32, |sum, x| sum + *x);
+        sum / (self.length as f32)
     }
 
-    pub fn new(length: usize) -> MovingAverageMade
+    #[tactic(auto, unfolding(crate::specs::MovingAverage::call_new_moving_average))]
+    pub fn new(length: usize) -> Answer<MovingAverage>
         ensures { result ≡ call_new_moving_average length }
     {
         MovingAverage::new_with_value(length, 0.0)
     }
 
-    pub fn new_with_value(length: usize, value: f32) -> MovingAverageMade
+    // Refused, the state is all zero.
+    #[tactic(auto, using(crate::specs::MovingAverageLaws::length_fits), unfolding(crate::specs::MovingAverage::call_new_with_value_moving_average))]
+    pub fn new_with_value(length: usize, value: f32) -> Answer<MovingAverage>
         ensures { result ≡ call_new_with_value_moving_average length value }
     {
         if bad_length(length) {
-            let refusal = Refusal::Window;
-            let filter = filled(0, 0.0);
-            return MovingAverageMade { refusal, filter };
+            return Refusal::Window.with(filled(0, 0.0));
         }
-        let refusal = Refusal::None;
-        let filter = filled(length, value);
-        MovingAverageMade { refusal, filter }
+        Ok(filled(length, value))
     }
 
-    pub fn update(self, value: f32) -> MovingAveraged
+    // Refused, y is +0 and the state is as it was.
+    #[tactic(auto, using(crate::specs::MovingAverageLaws::window_fits, crate::specs::MovingAverageLaws::store_length), unfolding(crate::specs::MovingAverage::call_update_moving_average))]
+    pub fn update(self, value: f32) -> Answer<Stepped<MovingAverage>>
         ensures { result ≡ call_update_moving_average self value }
     {
         if self.bad() {
-            let refusal = Refusal::Window;
-            return MovingAveraged {
-                refusal,
+            return Refusal::Window.with(Stepped {
                 y: 0.0,
-                filter: self,
-            };
+                state: self,
+            });
         }
-        let filter = self.store(value);
-        let y = filter.mean();
-        let refusal = Refusal::None;
-        MovingAveraged { refusal, y, filter }
+        let state = self.store(value);
+        let y = state.mean();
+        Ok(Stepped { y, state })
     }
 }

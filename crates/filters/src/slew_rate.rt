@@ -3,102 +3,65 @@
 ghost use Rattle.std.specs.Prelude.{◌≡◌};
 ghost use Rattle.filters.specs.SlewRate.{bad_limit, call_new_slew_rate, call_set_dt_slew_rate, call_update_slew_rate};
 
-use refusal::Refusal;
+use refusal::{Answer, Refusal};
+use step::Stepped;
 
-#[derive(Clone, Copy)]
+#[derive(Clone, Copy, Default)]
 pub struct SlewRate {
     pub rate_limit: f32,
     pub signal: f32,
     pub dt: f32,
 }
 
-// What the constructor and the setter give: refused, the constructor's state is all zero, and the setter's is as it was.
-#[derive(Clone, Copy)]
-pub struct SlewRateChanged {
-    pub refusal: Refusal,
-    pub filter: SlewRate,
-}
-
-// What an update gives: refused, y is +0 and the state is as it was.
-#[derive(Clone, Copy)]
-pub struct SlewRated {
-    pub refusal: Refusal,
-    pub y: f32,
-    pub filter: SlewRate,
-}
-
 // A limit of -0 has a negative sign.
+#[tactic(auto, unfolding(crate::specs::SlewRate::bad_limit))]
 pub fn bad_limit(limit: f32) -> bool
     ensures { result ≡ bad_limit limit }
 {
-    if float::is_nan(limit) {
-        return true;
-    }
-    float::is_sign_negative(limit)
+    float::is_nan(limit) || float::is_sign_negative(limit)
 }
 
+#[tactic(auto, unfolding(crate::specs::SlewRate::call_new_slew_rate, crate::specs::SlewRate::call_set_dt_slew_rate, crate::specs::SlewRate::call_update_slew_rate, crate::specs::SlewRate::set_dt_slew_rate, crate::specs::SlewRate::step_slew_rate, crate::specs::SlewRate::slew_change))]
 impl SlewRate {
-    pub fn new(rate_limit: f32, dt: f32) -> SlewRateChanged
+    // Refused, the state is all zero.
+    pub fn new(rate_limit: f32, dt: f32) -> Answer<SlewRate>
         ensures { result ≡ call_new_slew_rate rate_limit dt }
     {
         if bad_limit(rate_limit) {
-            let refusal = Refusal::Slew;
-            let filter = SlewRate {
-                rate_limit: 0.0,
-                signal: 0.0,
-                dt: 0.0,
-            };
-            return SlewRateChanged { refusal, filter };
+            return Refusal::Slew.with(SlewRate::default());
         }
-        let refusal = Refusal::None;
-        let filter = SlewRate {
+        Ok(SlewRate {
             rate_limit,
             signal: 0.0,
             dt,
-        };
-        SlewRateChanged { refusal, filter }
+        })
     }
 
-    pub fn update(self, input: f32) -> SlewRated
+    // Refused, y is +0 and the state is as it was.
+    pub fn update(self, input: f32) -> Answer<Stepped<SlewRate>>
         ensures { result ≡ call_update_slew_rate self input }
     {
         if bad_limit(self.rate_limit) {
-            let refusal = Refusal::Slew;
-            return SlewRated {
-                refusal,
+            return Refusal::Slew.with(Stepped {
                 y: 0.0,
-                filter: self,
-            };
+                state: self,
+            });
         }
         let low = -self.rate_limit * self.dt;
         let high = self.rate_limit * self.dt;
         let change = float::min(float::max(input - self.signal, low), high);
         let y = self.signal + change;
-        let refusal = Refusal::None;
-        let filter = SlewRate {
-            rate_limit: self.rate_limit,
-            signal: y,
-            dt: self.dt,
-        };
-        SlewRated { refusal, y, filter }
+        let state = SlewRate { signal: y, ..self };
+        Ok(Stepped { y, state })
     }
 
-    pub fn set_dt(self, dt: f32) -> SlewRateChanged
+    // Refused, the state is as it was.
+    pub fn set_dt(self, dt: f32) -> Answer<SlewRate>
         ensures { result ≡ call_set_dt_slew_rate self dt }
     {
         if bad_limit(self.rate_limit) {
-            let refusal = Refusal::Slew;
-            return SlewRateChanged {
-                refusal,
-                filter: self,
-            };
+            return Refusal::Slew.with(self);
         }
-        let refusal = Refusal::None;
-        let filter = SlewRate {
-            rate_limit: self.rate_limit,
-            signal: self.signal,
-            dt,
-        };
-        SlewRateChanged { refusal, filter }
+        Ok(SlewRate { dt, ..self })
     }
 }

@@ -1,7 +1,7 @@
 -- A hole of the recorder in `<i2`: from its row on, its lane prints NaN. Assumes nothing.
 use Rattle.std.specs.Prelude.{◌≡◌, List, true, take, drop, ℕ, ◌+◌, ◌*◌, ◌≤◌, ◌<◌}
 use Rattle.std.specs.Float.{nan}
-use Rattle.refusal.specs.Refusal.{passes}
+use Rattle.refusal.specs.Answers.{given, refusal_of, passes}
 use Rattle.npy.specs.declared.reader.Kind.{Kind}
 use Rattle.npy.specs.declared.reader.Kind.TheVariants.{I2}
 use Rattle.npy.specs.Header.{low_first}
@@ -19,6 +19,6 @@ hole_cell : (kind : Kind) (k : ℕ) (bytes : List ℕ) (q c : ℕ) → kind ≡ 
 unfolding cell_at
 hole_cell kind k bytes q c e h = rw e (i2-hole (drop ((q * k + c) * 2) bytes) h)
 
-pub hole_prints : (s : List ℕ) (m L q r : ℕ) → passes (call_start s).refusal ≡ true → CanTake m (call_start s).course (bytes_after_start s) → L < lanes_of s → q ≤ r → r < m
+pub hole_prints : (s : List ℕ) (m L q r : ℕ) → passes (refusal_of (call_start s)) ≡ true → CanTake m (given (call_start s)).course (bytes_after_start s) → L < lanes_of s → q ≤ r → r < m
     → cell_kind_of s ≡ I2 → low_first (take 2 (drop ((q * (lanes_of s * 3) + (L * 3 + 1)) * 2) (bytes_after_start s))) ≡ 0x8000 → printed_word s L r ≡ word_of nan
 hole_prints s m L q r a t l o h k e = nan_prints s m L q r a t l o h (hole_cell (cell_kind_of s) (lanes_of s * 3) (bytes_after_start s) q (L * 3 + 1) k e)

@@ -8,7 +8,7 @@ use Rattle.std.specs.Float.Ieee.{eq}
 use Rattle.std.specs.Float.Ieee.Scale.{finite}
 use Rattle.float.specs.F32 as F
 use Rattle.float.specs.OperationLaws.{nonfinite_is}
-use Rattle.refusal.specs.Refusal.{passes}
+use Rattle.refusal.specs.Answers.{given, refusal_of, passes}
 use Rattle.rate_pid.specs.declared.RatePid.{RatePid}
 use Rattle.rate_pid.specs.RatePid.{new_rate_pid}
 use Rattle.rate_pid.specs.FiltersOffLaws.{dt_zero}
@@ -36,7 +36,7 @@ digits_nonfinite : (w : List ℕ) (y : Float) → w ≡ word_of y → finite y �
 digits_nonfinite w y e h = elim (nonfinite_is y h) [ inl n ↦ inl (e ∙ ap word_of n) | inr (b, n) ↦ inr (b, e ∙ ap word_of n) ]
 
 -- the dt of lane L's settings is a zero: what it prints in a row are the digits of NaN or of an infinity
-pub dt_zero_prints : (s : List ℕ) (m L r : ℕ) → passes (call_start s).refusal ≡ true → CanTake m (call_start s).course (bytes_after_start s) → L < lanes_of s → r < m
+pub dt_zero_prints : (s : List ℕ) (m L r : ℕ) → passes (refusal_of (call_start s)) ≡ true → CanTake m (given (call_start s)).course (bytes_after_start s) → L < lanes_of s → r < m
     → eq (cell_at F4 5 (settings_of s) L 4) F.zero ≡ true → (printed_word s L r ≡ word_of nan) ⊎ ((b : Bool) × (printed_word s L r ≡ word_of (inf b)))
 unfolding controller_at new_rate_pid
 dt_zero_prints s m L r a t l h e =

@@ -1,17 +1,15 @@
 -- Once a lane's measurement is NaN, as a hole of the recorder reads, every row that is printed from there on has NaN for that lane. Assumes
 -- nothing.
-use Rattle.std.specs.Prelude.{◌≡◌, List, true, get_or, take, drop}
+use Rattle.std.specs.Prelude.{◌≡◌, List, true, get_or, drop}
 use Rattle.std.proofs.Math.Path.{refl}
 use Rattle.std.proofs.Common.{sym, ap, ◌∙◌, suc-mul, arith, drop-drop}
 use Prim.Native.Nat.{ℕ, zero, suc, ◌+◌, ◌*◌, ◌≤◌, ◌<◌}
 use Rattle.std.specs.Float.{nan}
-use Rattle.refusal.specs.Refusal.{passes}
+use Rattle.refusal.specs.Answers.{given, refusal_of, passes}
 use Rattle.rate_pid.specs.declared.RatePid.{RatePid}
 use Rattle.rate_pid.specs.RatePid.{step_rate_pid}
 use Rattle.npy.specs.declared.reader.Kind.{Kind}
-use Rattle.npy.specs.declared.reader.Kind.TheVariants.{I2}
-use Rattle.npy.specs.Header.{low_first, cell_width}
-use Rattle.npy.specs.HoleLaws.{i2-hole}
+use Rattle.npy.specs.Header.{cell_width}
 use Rattle.npy.specs.Cell.{cell_of}
 use Rattle.npy.specs.Lines.{word_of}
 use Rattle.bank.specs.declared.lane.Op.TheVariants.{Update}
@@ -70,7 +68,7 @@ module _ (kind : Kind) (k L : ℕ) where
       rw (stepped s bytes) (values_nan n q r (next_of s bytes) (drop (k * 3 * cell_width kind) bytes) (omega arith) (sym (next_row q (L * 3 + 1) bytes) ∙ e))
 
 -- if lane L's measurement in row q is NaN, lane L prints 7fc00000 in each printed row from q on
-pub nan_prints : (s : List ℕ) (m L q r : ℕ) → passes (call_start s).refusal ≡ true → CanTake m (call_start s).course (bytes_after_start s) → L < lanes_of s → q ≤ r → r < m
+pub nan_prints : (s : List ℕ) (m L q r : ℕ) → passes (refusal_of (call_start s)) ≡ true → CanTake m (given (call_start s)).course (bytes_after_start s) → L < lanes_of s → q ≤ r → r < m
     → cell_at (cell_kind_of s) (lanes_of s * 3) (bytes_after_start s) q (L * 3 + 1) ≡ nan → printed_word s L r ≡ word_of nan
 unfolding controller_at
 nan_prints s m L q r a t l o h e =

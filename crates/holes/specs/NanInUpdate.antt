@@ -1,6 +1,6 @@
 -- What happens to a controller when an update brings NaN. In the measurement, or in the prediction while the integral moves, NaN stays
 -- for good; in the reference, without a limiter, it is gone after the next update. Assumes nothing.
-use Rattle.std.specs.Prelude.{◌≡◌, refl, Bool, ◌⊎◌, Float}
+use Rattle.std.specs.Prelude.{◌≡◌, refl, None, Bool, ◌⊎◌, Float}
 use Rattle.std.proofs.Common.{ap, ◌∙◌}
 use Rattle.std.proofs.Math.Bool.{true, false}
 use Rattle.std.proofs.Math.Logic.{inl, inr}
@@ -13,7 +13,6 @@ use Rattle.filters.specs.Lowpass.{step_lowpass}
 use Rattle.filters.specs.Lowpass2.{step_lowpass2}
 use Rattle.rate_pid.specs.declared.RatePid.{RatePid}
 use Rattle.rate_pid.specs.declared.PidTerms.{PidTerms}
-use Rattle.rate_pid.specs.declared.slew.Slew.TheVariants.{Off}
 use Rattle.rate_pid.specs.Slew.{step_slew}
 use Rattle.rate_pid.specs.RatePidLaws.{not_calm}
 use Rattle.rate_pid.specs.RatePid.{slewed_of, filtered_of, d_gain_of, ref_derivative_of, meas_derivative_of, calm_of, damped_of, damping_of, grown_of, integrated, integrated_of, terms_of, step_rate_pid, total_of}
@@ -83,15 +82,15 @@ unfolding step_rate_pid terms_of total_of
 reference_nan s m p = rw (nan_sub, mul_nan, nan_add, nan_add, nan_add)
 
 -- and so does the next, whose derivative looks back at it
-pub next_nan : (s : RatePid) (m p r' m' p' : Float) → s.d_slew ≡ Off → total_of (step_rate_pid (step_rate_pid s nan m p) r' m' p').terms ≡ nan
+pub next_nan : (s : RatePid) (m p r' m' p' : Float) → s.d_slew ≡ None → total_of (step_rate_pid (step_rate_pid s nan m p) r' m' p').terms ≡ nan
 unfolding step_rate_pid terms_of total_of ref_derivative_of slewed_of step_slew
 next_nan s m p r' m' p' off = rw (off, sub_nan, mul_nan, add_nan, nan_add)
 
-slewed_nan : (s : RatePid) → s.d_slew ≡ Off → Ieee.is_nan (slewed_of s nan) ≡ true
+slewed_nan : (s : RatePid) → s.d_slew ≡ None → Ieee.is_nan (slewed_of s nan) ≡ true
 unfolding slewed_of step_slew Ieee.is_nan
 slewed_nan s off = rw off
 
-nan_not_calm : (s : RatePid) (m : Float) → s.d_slew ≡ Off → calm_of s nan m ≡ false
+nan_not_calm : (s : RatePid) (m : Float) → s.d_slew ≡ None → calm_of s nan m ≡ false
 nan_not_calm s m off = not_calm s nan m (inr (inr (inl (slewed_nan s off))))
 
 -- the same controller with another remembered reference and other terms
@@ -112,7 +111,7 @@ with_ref_and_terms s r t = record {
 }
 
 -- where the integral stands still, the reference goes into the remembered reference and the terms alone
-reference_apart : (s : RatePid) (r q m p : Float) → s.d_slew ≡ Off → calm_of s r m ≡ false → calm_of s q m ≡ false
+reference_apart : (s : RatePid) (r q m p : Float) → s.d_slew ≡ None → calm_of s r m ≡ false → calm_of s q m ≡ false
     → step_rate_pid s r m p ≡ with_ref_and_terms (step_rate_pid s q m p) r (terms_of s r m p)
 unfolding step_rate_pid integrated_of integrated slewed_of step_slew with_ref_and_terms
 reference_apart s r q m p off h g = rw (h, g, off)
@@ -129,7 +128,7 @@ unfolding with_ref_and_terms step_rate_pid slewed_of filtered_of d_gain_of meas_
 reference_once s q t r m p = refl
 
 -- after that the controller is as if the reference had been any other at which the integral stands still
-pub reference_forgotten : (s : RatePid) (r m p r' m' p' r'' m'' p'' : Float) → s.d_slew ≡ Off → calm_of s r m ≡ false
+pub reference_forgotten : (s : RatePid) (r m p r' m' p' r'' m'' p'' : Float) → s.d_slew ≡ None → calm_of s r m ≡ false
     → step_rate_pid (step_rate_pid (step_rate_pid s nan m p) r' m' p') r'' m'' p'' ≡ step_rate_pid (step_rate_pid (step_rate_pid s r m p) r' m' p') r'' m'' p''
 reference_forgotten s r m p r' m' p' r'' m'' p'' off h =
     ap (λ (t : RatePid). step_rate_pid (step_rate_pid t r' m' p') r'' m'' p'') (reference_apart s nan r m p off (nan_not_calm s m off) h)

@@ -1,11 +1,11 @@
 -- linear_lut.rs: points are a lent run of x, y pairs.
-use Rattle.std.specs.Prelude.{ℕ, zero, suc, ◌+◌, ◌-◌, ◌*◌, ◌/◌, ◌%◌, Bool, true, false, cond, ◌&&◌, ◌||◌, List, eqb, length, get_or, Float}
+use Rattle.std.specs.Prelude.{ℕ, zero, suc, ◌+◌, ◌-◌, ◌*◌, ◌/◌, ◌%◌, Bool, true, false, cond, ◌&&◌, ◌||◌, List, eqb, length, get_or, Float, Ok}
 use Rattle.std.specs.Float.{nan}
 use Rattle.std.specs.Float.Ieee.{le}
 use Rattle.float.specs.F32 as F
 use Rattle.float.specs.F32.{◌+f◌, ◌-f◌, ◌*f◌, ◌/f◌}
+use Rattle.refusal.specs.Answers.{Answer, refused}
 use Rattle.refusal.specs.declared.Refusal.TheVariants as Refusal
-use Rattle.linear_lut.specs.declared.Looked.{Looked}
 
 -- point i's x and y
 abbrev pub x_at : List Float → ℕ → Float
@@ -15,11 +15,11 @@ abbrev pub y_at : List Float → ℕ → Float
 y_at points i = get_or points (2 * i + 1) nan
 
 -- the line from point i to the next: y0 + (y1 − y0)·(x − x0)/(x1 − x0)
-unfoldable pub segment : List Float → ℕ → Float → Float
+abbrev pub segment : List Float → ℕ → Float → Float
 segment points i x = y_at points i +f (y_at points (i + 1) -f y_at points i) *f (x -f x_at points i) /f (x_at points (i + 1) -f x_at points i)
 
 -- x lies from point i's x to the next one's
-unfoldable pub holds : List Float → ℕ → Float → Bool
+abbrev pub holds : List Float → ℕ → Float → Bool
 holds points i x = le (x_at points i) x && le x (x_at points (i + 1))
 
 -- the first of `left` segments from i on that holds x; 0 where none does
@@ -28,7 +28,7 @@ within points zero i x = F.zero
 within points (suc left) i x = elim (holds points i x) [ true ↦ segment points i x | false ↦ within points left (suc i) x ]
 
 -- n points, two at least: at or below the first x the first segment extends, at or above the last the last one
-unfoldable pub among : List Float → ℕ → Float → Float
+abbrev pub among : List Float → ℕ → Float → Float
 among points n x =
     cond (le x (x_at points 0)) (segment points 0 x)
     (cond (le (x_at points (n - 1)) x) (segment points (n - 2) x) (within points (n - 1) 0 x))
@@ -38,7 +38,7 @@ abbrev pub bad_points : List Float → Bool
 bad_points points = eqb (length points % 2) 1 || eqb (length points) 2
 
 -- no points: 0
-unfoldable pub call_get : List Float → Float → Looked
+abbrev pub call_get : List Float → Float → Answer Float
 call_get points x =
-    cond (bad_points points) (record { refusal = Refusal.Points; y = F.zero })
-    (record { refusal = Refusal.None; y = cond (eqb (length points) 0) F.zero (among points (length points / 2) x) })
+    cond (bad_points points) (refused Refusal.Points F.zero)
+    (Ok (cond (eqb (length points) 0) F.zero (among points (length points / 2) x)))

@@ -4,13 +4,7 @@
 ghost use Rattle.std.specs.Prelude.{◌≡◌, ◌+◌, ◌-◌, ◌*◌, ◌/◌, ◌≤◌, ◌<◌, length};
 ghost use Rattle.linear_lut.specs.LinearLut.{segment, holds, within, among, call_get};
 
-use refusal::Refusal;
-
-#[derive(Clone, Copy)]
-pub struct Looked {
-    pub refusal: Refusal,
-    pub y: f32,
-}
+use refusal::{Answer, Refusal};
 
 // The line of the segment from point i to the next, at x.
 fn segment(points: &[f32], i: usize, x: f32) -> f32
@@ -29,24 +23,19 @@ fn holds(points: &[f32], i: usize, x: f32) -> bool
     requires { 2 * i + 3 < length points.now }
     ensures { result ≡ holds points.now i x }
 {
-    if points[2 * i] <= x {
-        return x <= points[2 * i + 2];
-    }
-    false
+    points[2 * i] <= x && x <= points[2 * i + 2]
 }
 
 // The first segment that holds x, at x.
+#[tactic(auto, using(crate::specs::LinearLutLaws::found, crate::specs::LinearLutLaws::passed, crate::specs::LinearLutLaws::none_left))]
 fn within(points: &[f32], x: f32) -> f32
     requires { 4 ≤ length points.now }
     ensures { result ≡ within points.now (length points.now / 2 - 1) 0 x }
 {
-    let last = points.len() / 2 - 1;
-    let mut i = 0;
-    while i < last {
+    for i in 0..points.len() / 2 - 1 {
         if holds(points, i, x) {
             return segment(points, i, x);
         }
-        i += 1;
     }
     0.0
 }
@@ -66,22 +55,15 @@ fn among(points: &[f32], x: f32) -> f32
 }
 
 // `LinearLut::get`, over a lent run of x, y pairs.
-pub fn get(points: &[f32], x: f32) -> Looked
+pub fn get(points: &[f32], x: f32) -> Answer<f32>
     ensures { result ≡ call_get points.now x }
 {
     let n = points.len();
-    if n % 2 == 1 {
-        let refusal = Refusal::Points;
-        return Looked { refusal, y: 0.0 };
+    if n % 2 == 1 || n == 2 {
+        return Refusal::Points.with(0.0);
     }
-    if n == 2 {
-        let refusal = Refusal::Points;
-        return Looked { refusal, y: 0.0 };
-    }
-    let refusal = Refusal::None;
     if n == 0 {
-        return Looked { refusal, y: 0.0 };
+        return Ok(0.0);
     }
-    let y = among(points, x);
-    Looked { refusal, y }
+    Ok(among(points, x))
 }

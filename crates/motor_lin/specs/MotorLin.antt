@@ -1,31 +1,29 @@
 -- motor_lin.rs. The constructor, both conversions and both reads are refused 7 where min ≤ max or f_min ≤ f_max does not hold.
-use Rattle.std.specs.Prelude.{Bool, cond, not, ◌&&◌, Float}
+use Rattle.std.specs.Prelude.{Bool, cond, not, ◌&&◌, Float, Ok}
 use Rattle.std.specs.Float.Ieee.{le}
 use Rattle.float.specs.F32 as F
 use Rattle.float.specs.F32.{◌+f◌, ◌-f◌, ◌*f◌, ◌/f◌}
 use Rattle.float.specs.Float.{clamp_f}
 use Rattle.root.specs.Root.{root}
+use Rattle.refusal.specs.Answers.{Answer, refused}
 use Rattle.refusal.specs.declared.Refusal.TheVariants as Refusal
 use Rattle.motor_lin.specs.declared.Command.{Command}
 use Rattle.motor_lin.specs.declared.Thrust.{Thrust}
 use Rattle.motor_lin.specs.declared.MotorLin.{MotorLin}
-use Rattle.motor_lin.specs.declared.Made.{Made}
-use Rattle.motor_lin.specs.declared.Forced.{Forced}
-use Rattle.motor_lin.specs.declared.Commanded.{Commanded}
 
 -- a·c·c/(1 + b·c·c), with c clamped first
-unfoldable pub thrust_of : Float → Float → Float → Float → Float → Float
+abbrev pub thrust_of : Float → Float → Float → Float → Float → Float
 thrust_of a b low high command =
     let c = clamp_f command low high in
     a *f c *f c /f (F.one +f b *f c *f c)
 
 -- the root of f/(a − f·b), with f clamped first
-unfoldable pub command_of : Float → Float → Float → Float → Float → Float
+abbrev pub command_of : Float → Float → Float → Float → Float → Float
 command_of a b low high force =
     let f = clamp_f force low high in
     root (f /f (a -f f *f b))
 
-unfoldable pub bad_motor : MotorLin → Bool
+abbrev pub bad_motor : MotorLin → Bool
 bad_motor m = not (le m.c_min.0 m.c_max.0 && le m.f_min.0 m.f_max.0)
 
 abbrev pub command : Float → Command
@@ -34,7 +32,7 @@ command c = record { 0 = c }
 abbrev pub thrust : Float → Thrust
 thrust f = record { 0 = f }
 
-unfoldable pub zero_motor : MotorLin
+abbrev pub zero_motor : MotorLin
 zero_motor = record {
   a = F.zero;
   b = F.zero;
@@ -45,7 +43,7 @@ zero_motor = record {
 }
 
 -- the motor with the thrusts of its two limits
-unfoldable pub new_motor_lin : Float → Float → Command → Command → MotorLin
+abbrev pub new_motor_lin : Float → Float → Command → Command → MotorLin
 new_motor_lin a b min max = record {
   a = a;
   b = b;
@@ -55,26 +53,28 @@ new_motor_lin a b min max = record {
   f_max = thrust (thrust_of a b min.0 max.0 max.0);
 }
 
-unfoldable pub call_new_motor_lin : Float → Float → Command → Command → Made
-call_new_motor_lin a b min max = cond (bad_motor (new_motor_lin a b min max))
-    (record { refusal = Refusal.Motor; motor = zero_motor })
-    (record { refusal = Refusal.None; motor = new_motor_lin a b min max })
+-- an answer, and what it is where the motor is refused
+abbrev pub unless_bad : {A : Type 0} → MotorLin → A → A → Answer A
+unless_bad m none a = cond (bad_motor m) (refused Refusal.Motor none) (Ok a)
 
--- an answer in thrust, and one in command: +0 where the motor is refused
-unfoldable pub force_unless_bad : MotorLin → Thrust → Forced
-force_unless_bad m f = cond (bad_motor m) (record { refusal = Refusal.Motor; force = thrust F.zero }) (record { refusal = Refusal.None; force = f })
+abbrev pub call_new_motor_lin : Float → Float → Command → Command → Answer MotorLin
+call_new_motor_lin a b min max = unless_bad (new_motor_lin a b min max) zero_motor (new_motor_lin a b min max)
 
-unfoldable pub command_unless_bad : MotorLin → Command → Commanded
-command_unless_bad m c = cond (bad_motor m) (record { refusal = Refusal.Motor; command = command F.zero }) (record { refusal = Refusal.None; command = c })
+-- in thrust, and in command: +0 where the motor is refused
+abbrev pub force_unless_bad : MotorLin → Thrust → Answer Thrust
+force_unless_bad m f = unless_bad m (thrust F.zero) f
 
-unfoldable pub call_command_to_force : MotorLin → Command → Forced
+abbrev pub command_unless_bad : MotorLin → Command → Answer Command
+command_unless_bad m c = unless_bad m (command F.zero) c
+
+abbrev pub call_command_to_force : MotorLin → Command → Answer Thrust
 call_command_to_force m c = force_unless_bad m (thrust (thrust_of m.a m.b m.c_min.0 m.c_max.0 c.0))
 
-unfoldable pub call_force_to_command : MotorLin → Thrust → Commanded
+abbrev pub call_force_to_command : MotorLin → Thrust → Answer Command
 call_force_to_command m f = command_unless_bad m (command (command_of m.a m.b m.f_min.0 m.f_max.0 f.0))
 
-unfoldable pub call_min_force : MotorLin → Forced
+abbrev pub call_min_force : MotorLin → Answer Thrust
 call_min_force m = force_unless_bad m m.f_min
 
-unfoldable pub call_max_force : MotorLin → Forced
+abbrev pub call_max_force : MotorLin → Answer Thrust
 call_max_force m = force_unless_bad m m.f_max

@@ -1,3 +1,5 @@
+pub mod Samples
+pub mod SamplesLaws
 pub mod Biquad
 pub mod NotchFilter
 pub mod NotchFilterLaws

@@ -4,9 +4,10 @@ use Rattle.std.specs.Float.{binary32}
 use Rattle.std.specs.Float.Ieee.{of_bits}
 use Rattle.float.specs.F32.{◌+f◌, ◌-f◌, ◌*f◌, ◌/f◌}
 use Rattle.lanes.specs.Runs.{Machine}
+use Rattle.step.specs.declared.Stepped.{Stepped}
 use Rattle.notch.specs.declared.biquad.BiquadParams.{BiquadParams}
 use Rattle.notch.specs.declared.notch_filter.NotchFilter.{NotchFilter}
-use Rattle.notch.specs.declared.notch_filter.NotchFiltered.{NotchFiltered}
+use Rattle.notch.specs.Samples.{machine_of}
 use Rattle.notch.specs.Biquad.{new_biquad, with_params, step_biquad}
 
 abbrev two : Float
@@ -44,11 +45,11 @@ set_freq_center_notch_filter s fc t = retuned s fc s.fb t
 unfoldable pub set_freq_bandwidth_notch_filter : NotchFilter → Float → NotchFilter
 set_freq_bandwidth_notch_filter s fb = retuned s s.fc fb s.t
 
-unfoldable pub step_notch_filter : NotchFilter → Float → NotchFiltered
+unfoldable pub step_notch_filter : NotchFilter → Float → Stepped NotchFilter
 step_notch_filter s input =
     let next = step_biquad s.biquad input in
-    record { y = next.y; filter = record { fc = s.fc; fb = s.fb; dt = s.dt; t = s.t; biquad = next.filter } }
+    record { y = next.y; state = record { fc = s.fc; fb = s.fb; dt = s.dt; t = s.t; biquad = next.state } }
 
 -- sample after sample
 abbrev pub notch_machine : Machine NotchFilter Float Float
-notch_machine = record { answer = λ s x. (step_notch_filter s x).y; next = λ s x. (step_notch_filter s x).filter }
+notch_machine = machine_of step_notch_filter

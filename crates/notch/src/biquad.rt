@@ -1,9 +1,13 @@
 // The biquad: a filter over the last three samples in and out. The Rust indexes its arrays by constants only, so its a[0] is a0 here,
 // and so on.
+#![tactic(auto, unfolding(crate::specs::Biquad::new_biquad, crate::specs::Biquad::with_params, crate::specs::Biquad::step_biquad))]
+
 ghost use Rattle.std.specs.Prelude.{◌≡◌};
 ghost use Rattle.notch.specs.Biquad.{new_biquad, with_params, step_biquad};
 
-#[derive(Clone, Copy)]
+use step::Stepped;
+
+#[derive(Clone, Copy, Default)]
 pub struct BiquadParams {
     pub a0: f32,
     pub a1: f32,
@@ -14,7 +18,7 @@ pub struct BiquadParams {
 }
 
 // The history, newest first: samples in are x, samples out y.
-#[derive(Clone, Copy)]
+#[derive(Clone, Copy, Default)]
 pub struct BiquadFilter {
     pub params: BiquadParams,
     pub x0: f32,
@@ -25,24 +29,13 @@ pub struct BiquadFilter {
     pub y2: f32,
 }
 
-#[derive(Clone, Copy)]
-pub struct BiquadFiltered {
-    pub y: f32,
-    pub filter: BiquadFilter,
-}
-
 impl BiquadFilter {
     pub(crate) fn new(params: BiquadParams) -> Self
         ensures { result ≡ new_biquad params }
     {
         BiquadFilter {
             params,
-            x0: 0.0,
-            x1: 0.0,
-            x2: 0.0,
-            y0: 0.0,
-            y1: 0.0,
-            y2: 0.0,
+            ..BiquadFilter::default()
         }
     }
 
@@ -50,18 +43,10 @@ impl BiquadFilter {
     pub(crate) fn with_params(self, params: BiquadParams) -> Self
         ensures { result ≡ with_params self params }
     {
-        BiquadFilter {
-            params,
-            x0: self.x0,
-            x1: self.x1,
-            x2: self.x2,
-            y0: self.y0,
-            y1: self.y1,
-            y2: self.y2,
-        }
+        BiquadFilter { params, ..self }
     }
 
-    pub(crate) fn update(self, input: f32) -> BiquadFiltered
+    pub(crate) fn update(self, input: f32) -> Stepped<Self>
         ensures { result ≡ step_biquad self input }
     {
         let params = self.params;
@@ -74,9 +59,9 @@ impl BiquadFilter {
             - y1 * params.a1
             - y2 * params.a2;
         let y0 = output / params.a0;
-        BiquadFiltered {
+        Stepped {
             y: y0,
-            filter: BiquadFilter {
+            state: BiquadFilter {
                 params,
                 x0,
                 x1,

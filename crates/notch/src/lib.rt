@@ -5,7 +5,9 @@
 mod biquad;
 mod notch_filter;
 mod notches;
+mod samples;
 
 pub use biquad::{BiquadFilter, BiquadParams};
-pub use notch_filter::{NotchFilter, NotchFiltered};
-pub use notches::{Notches, NotchesRun};
+pub use notch_filter::NotchFilter;
+pub use notches::Notches;
+pub use samples::{Sampled, run};

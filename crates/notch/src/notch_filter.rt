@@ -1,25 +1,23 @@
 // The notch: takes out what swings at about the frequency fc, over the bandwidth fb. t stands where the Rust works a tangent out.
+#![tactic(auto, unfolding(crate::specs::NotchFilter::calc_params, crate::specs::NotchFilter::new_notch_filter, crate::specs::NotchFilter::retuned, crate::specs::NotchFilter::set_freq_center_notch_filter, crate::specs::NotchFilter::set_freq_bandwidth_notch_filter, crate::specs::NotchFilter::step_notch_filter))]
+
 ghost use Rattle.std.specs.Prelude.{◌≡◌};
 ghost use Rattle.notch.specs.NotchFilter.{calc_params, new_notch_filter, retuned, set_freq_center_notch_filter, set_freq_bandwidth_notch_filter, step_notch_filter};
 
 use crate::biquad::{BiquadFilter, BiquadParams};
+use crate::samples::Sampled;
+use step::Stepped;
 
 // f32's pi, bits 40490fdb.
 const PI: f32 = 3.1415927;
 
-#[derive(Clone, Copy)]
+#[derive(Clone, Copy, Default)]
 pub struct NotchFilter {
     pub fc: f32,
     pub fb: f32,
     pub dt: f32,
     pub t: f32,
     pub biquad: BiquadFilter,
-}
-
-#[derive(Clone, Copy)]
-pub struct NotchFiltered {
-    pub y: f32,
-    pub filter: NotchFilter,
 }
 
 // The one place that makes the coefficients. fc goes into them through its t only.
@@ -46,13 +44,12 @@ impl NotchFilter {
     pub fn new(fc: f32, fb: f32, dt: f32, t: f32) -> Self
         ensures { result ≡ new_notch_filter fc fb dt t }
     {
-        let biquad = BiquadFilter::new(calc_params(fb, dt, t));
         NotchFilter {
             fc,
             fb,
             dt,
             t,
-            biquad,
+            biquad: BiquadFilter::new(calc_params(fb, dt, t)),
         }
     }
 
@@ -60,14 +57,13 @@ impl NotchFilter {
     fn retuned(self, fc: f32, fb: f32, t: f32) -> Self
         ensures { result ≡ retuned self fc fb t }
     {
-        let old = self.biquad;
-        let biquad = old.with_params(calc_params(fb, self.dt, t));
+        let biquad = self.biquad.with_params(calc_params(fb, self.dt, t));
         NotchFilter {
             fc,
             fb,
-            dt: self.dt,
             t,
             biquad,
+            ..self
         }
     }
 
@@ -85,21 +81,24 @@ impl NotchFilter {
         self.retuned(self.fc, fb, self.t)
     }
 
-    pub fn update(self, input: f32) -> NotchFiltered
+    pub fn update(self, input: f32) -> Stepped<Self>
         ensures { result ≡ step_notch_filter self input }
     {
-        let old = self.biquad;
-        let next = old.update(input);
-        let biquad = next.filter;
-        NotchFiltered {
+        let next = self.biquad.update(input);
+        Stepped {
             y: next.y,
-            filter: NotchFilter {
-                fc: self.fc,
-                fb: self.fb,
-                dt: self.dt,
-                t: self.t,
-                biquad,
+            state: NotchFilter {
+                biquad: next.state,
+                ..self
             },
         }
+    }
+}
+
+impl Sampled for NotchFilter {
+    ghost stepped = { step_notch_filter };
+
+    fn step(self, input: f32) -> Stepped<Self> {
+        self.update(input)
     }
 }

@@ -4,7 +4,7 @@ use Rattle.std.proofs.Common.{sym, ◌∙◌, ap, pow-suc, lt_of_lt_of_le, arith
 use Rattle.std.proofs.Math.Nat.{pow-le-pow_right}
 use Rattle.std.proofs.lemmas.Bool.{eqb-false}
 use Rattle.refusal.specs.declared.Refusal.{Refusal}
-use Rattle.refusal.specs.Refusal.{passes}
+use Rattle.refusal.specs.Answers.{Answer, given}
 use Rattle.lemmas.specs.Cases.{and_left, and_right}
 use Rattle.npy.specs.declared.reader.Head.{Head}
 use Rattle.npy.specs.Text.{byte_within, is_digit, lead_count, end_of, decimal, rows_at, rows_end, cols_at, cols_end, places_of, spelled}
@@ -22,16 +22,16 @@ pub record AcceptedHeader (s : List ℕ) : Type 0 where
   pub spells : spelled (text_of s) (places_of (text_of s)) ≡ true
   pub reads : call_header s ≡ text_head (text_of s) (8 + length_width s + text_length (length_width s) s)
 
-accepted_first : (b : Bool) (x y : Head) → is_accepted y ≡ false → is_accepted (cond b x y) ≡ true → b ≡ true
+accepted_first : (b : Bool) (x y : Answer Head) → is_accepted y ≡ false → is_accepted (cond b x y) ≡ true → b ≡ true
 accepted_first true x y e h = refl
 accepted_first false x y e h = sym e ∙ h
 
-accepted-second : (b : Bool) (x y : Head) → is_accepted x ≡ false → is_accepted (cond b x y) ≡ true → b ≡ false
+accepted-second : (b : Bool) (x y : Answer Head) → is_accepted x ≡ false → is_accepted (cond b x y) ≡ true → b ≡ false
 accepted-second true x y e h = sym h ∙ e
 accepted-second false x y e h = refl
 
 pub accepted-parts : (s : List ℕ) → is_accepted (call_header s) ≡ true → AcceptedHeader s
-unfolding call_header header_of_width text_head refused_head passes
+unfolding call_header header_of_width text_head refused_head
 accepted-parts s h =
     let w = length_width s in
     let n = text_length (length_width s) s in
@@ -50,16 +50,16 @@ accepted-parts s h =
       reads = rw (k, f);
     }
 
-pub text_at : (t : List ℕ) (at : ℕ) → spelled t (places_of t) ≡ true → (text_head t at).at ≡ at
+pub text_at : (t : List ℕ) (at : ℕ) → spelled t (places_of t) ≡ true → (given (text_head t at)).at ≡ at
 unfolding text_head accepted_head
 text_at t at e = rw e
 
 -- the place of the data: a multiple of 16, 1,012 at most
 pub data_place : (s : List ℕ) → is_accepted (call_header s) ≡ true
-    → ((call_header s).at ≡ 8 + length_width s + text_length (length_width s) s) × ((call_header s).at % 16 ≡ 0) × ((call_header s).at ≤ 1012)
+    → ((given (call_header s)).at ≡ 8 + length_width s + text_length (length_width s) s) × ((given (call_header s)).at % 16 ≡ 0) × ((given (call_header s)).at ≤ 1012)
 data_place s h =
     let a = accepted-parts s h in
-    let p : (call_header s).at ≡ 8 + length_width s + text_length (length_width s) s = ap (λ (x : Head). x.at) a.reads ∙ text_at (text_of s) _ a.spells in
+    let p : (given (call_header s)).at ≡ 8 + length_width s + text_length (length_width s) s = ap (λ (x : Answer Head). (given x).at) a.reads ∙ text_at (text_of s) _ a.spells in
     let f = fits-parts _ _ _ a.fits in
     let w = width_small s in
     (p, rw p f.3, omega arith)
@@ -95,12 +95,12 @@ decimal_small t at n e h =
     let d : decimal 0 (take n (drop at t)) < 10 ^ (0 + n) = digits_small n 0 0 (drop at t) l (lit< tt) in
     lt_of_lt_of_le d (pow-le-pow_right {n = 10} (lit< tt) {i = 0 + n} {j = 9} (omega arith))
 
-shape_of : (t : List ℕ) (at : ℕ) → spelled t (places_of t) ≡ true → ((text_head t at).rows < 10 ^ 9) × ((text_head t at).cols < 10 ^ 9)
+shape_of : (t : List ℕ) (at : ℕ) → spelled t (places_of t) ≡ true → ((given (text_head t at)).rows < 10 ^ 9) × ((given (text_head t at)).cols < 10 ^ 9)
 unfolding text_head accepted_head rows_end cols_end
 shape_of t at e =
     let p = spelled-parts t e in
     rw e
     (decimal_small t (rows_at t) (rows_end t - rows_at t) refl (number_size _ _ p.rows).1, decimal_small t (cols_at t) (cols_end t - cols_at t) refl (number_size _ _ p.cols).1)
 
-pub shape_small : (s : List ℕ) → is_accepted (call_header s) ≡ true → ((call_header s).rows < 10 ^ 9) × ((call_header s).cols < 10 ^ 9)
+pub shape_small : (s : List ℕ) → is_accepted (call_header s) ≡ true → ((given (call_header s)).rows < 10 ^ 9) × ((given (call_header s)).cols < 10 ^ 9)
 shape_small s h = let a = accepted-parts s h in rw a.reads (shape_of (text_of s) _ a.spells)

@@ -6,6 +6,7 @@ use Rattle.std.proofs.Math.Path.{ap}
 use mathlib.Core.List.{List, [], ◌∷◌, ◌++◌}
 use Rattle.std.proofs.Math.Nat.{add-sub_cancel_left}
 use Rattle.lemmas.specs.Cases.{and_left, and_right}
+use Rattle.refusal.specs.Answers.{given}
 use Rattle.npy.specs.Text.{begins, byte_within, is_kind_byte, is_digit, is_space, lead_count, end_of, is_number, before_kind, before_rows, before_cols, after_cols, line_feed, kind_end, rows_at, rows_end, cols_at, cols_end, feed_at, places_of, spelled}
 use Rattle.npy.specs.TextLaws.{lead_within, end_within, spelled-parts, number_size}
 use Rattle.npy.specs.Header.{magic, is_accepted, text_length, length_width, call_header}
@@ -182,7 +183,7 @@ framed_start s g =
     begins_is magic s b ∙ ap (λ (t : List ℕ). magic ++ t) (c6 ∙ ap (λ (t : List ℕ). get_or s 6 0 ∷ t) (c7 ∙ ap (λ (x : ℕ). x ∷ drop 8 s) z) ∙ ap (λ (x : ℕ). x ∷ (0 ∷ drop 8 s)) k.1.0)
 
 pub accepted_framed : (s : List ℕ) → is_accepted (call_header s) ≡ true
-    → Framed (length_width s) (take (length_width s) (drop 8 s)) (text_of s) × (s ≡ header_bytes (length_width s) (take (length_width s) (drop 8 s)) (text_of s) (drop (call_header s).at s))
+    → Framed (length_width s) (take (length_width s) (drop 8 s)) (text_of s) × (s ≡ header_bytes (length_width s) (take (length_width s) (drop 8 s)) (text_of s) (drop (given (call_header s)).at s))
 unfolding text_length
 accepted_framed s h =
     let a = accepted-parts s h in
@@ -193,7 +194,7 @@ accepted_framed s h =
     let tl : length (text_of s) ≡ text_length (length_width s) s = length-take-le _ _ n in
     let e8 : drop 8 s ≡ take (length_width s) (drop 8 s) ++ drop (8 + length_width s) s =
     sym (take-append-drop (length_width s) (drop 8 s)) ∙ ap (λ (m : List ℕ). take (length_width s) (drop 8 s) ++ m) (drop-drop (length_width s) 8 s) in
-    let et : drop (8 + length_width s) s ≡ text_of s ++ drop (call_header s).at s =
+    let et : drop (8 + length_width s) s ≡ text_of s ++ drop (given (call_header s)).at s =
     sym (take-append-drop (text_length (length_width s) s) (drop (8 + length_width s) s)) ∙ ap (λ (m : List ℕ). text_of s ++ m) (drop-drop (text_length (length_width s) s) (8 + length_width s) s ∙ ap (λ (k : ℕ). drop k s) (sym d.0)) in (
       record {
         width = (version_known s a.known).1.1;
@@ -219,8 +220,8 @@ accepted-spelled s h =
       r = r_of (text_of s);
       c = c_of (text_of s);
       n = space_count (text_of s);
-      rest = drop (call_header s).at s;
+      rest = drop (given (call_header s)).at s;
       parts = spelled_header_parts (text_of s) a.spells;
       framed = subst (λ (t : List ℕ). Framed (length_width s) (take (length_width s) (drop 8 s)) t) e f.0;
-      is = f.1 ∙ ap (λ (t : List ℕ). header_bytes (length_width s) (take (length_width s) (drop 8 s)) t (drop (call_header s).at s)) e;
+      is = f.1 ∙ ap (λ (t : List ℕ). header_bytes (length_width s) (take (length_width s) (drop 8 s)) t (drop (given (call_header s)).at s)) e;
     }

@@ -1,7 +1,7 @@
 -- The header of an array, in the order of document 01: magic and version (11), then the length of the text and the text (12).
-use Rattle.std.specs.Prelude.{ℕ, ◌+◌, ◌-◌, ◌*◌, ◌%◌, List, [], ◌∷◌, Bool, cond, ◌&&◌, length, get_or, take, drop, ltb, leb, eqb}
+use Rattle.std.specs.Prelude.{ℕ, zero, suc, Option, Some, None, Ok, ◌+◌, ◌-◌, ◌*◌, ◌%◌, List, [], ◌∷◌, Bool, cond, ◌&&◌, length, get_or, take, drop, ltb, leb, eqb}
 use Rattle.refusal.specs.declared.Refusal.{Refusal}
-use Rattle.refusal.specs.Refusal.{passes}
+use Rattle.refusal.specs.Answers.{Answer, refused, given, refusal_of, passes}
 use Rattle.npy.specs.Text.{begins, decimal, kind_of, kind_end, rows_at, rows_end, cols_at, cols_end, places_of, spelled}
 use Rattle.npy.specs.declared.reader.Kind.{Kind}
 use Rattle.npy.specs.declared.reader.Kind.TheVariants.{F4, I2, Other}
@@ -22,17 +22,21 @@ cell_width Other = 0
 abbrev pub has_cells : Kind → Bool
 has_cells k = ltb 0 (cell_width k)
 
-unfoldable pub refused_head : Refusal → Head
-refused_head r = record { refusal = r; kind = Other; rows = 0; cols = 0; at = 0 }
+-- what stands in the answer of a header that is refused
+abbrev pub no_head : Head
+no_head = record { kind = Other; rows = 0; cols = 0; at = 0 }
 
-unfoldable pub accepted_head : Kind → ℕ → ℕ → ℕ → Head
-accepted_head k r c at = record { refusal = Refusal.None; kind = k; rows = r; cols = c; at = at }
+unfoldable pub refused_head : Refusal → Answer Head
+refused_head r = refused r no_head
 
-abbrev pub is_accepted : Head → Bool
-is_accepted h = passes h.refusal
+unfoldable pub accepted_head : Kind → ℕ → ℕ → ℕ → Answer Head
+accepted_head k r c at = Ok (record { kind = k; rows = r; cols = c; at = at })
+
+abbrev pub is_accepted : Answer Head → Bool
+is_accepted h = passes (refusal_of h)
 
 -- the header whose text is t, and whose data begin at a place
-unfoldable pub text_head : List ℕ → ℕ → Head
+unfoldable pub text_head : List ℕ → ℕ → Answer Head
 text_head t at =
     cond (spelled t (places_of t))
     (accepted_head (kind_of (drop 11 t) (kind_end t - 11)) (decimal 0 (take (rows_end t - rows_at t) (drop (rows_at t) t))) (decimal 0 (take (cols_end t - cols_at t) (drop (cols_at t) t))) at)
@@ -46,7 +50,7 @@ unfoldable pub text_length : ℕ → List ℕ → ℕ
 text_length w s = low_first (take w (drop 8 s))
 
 -- the header whose text's length has w bytes
-unfoldable pub header_of_width : ℕ → List ℕ → Head
+unfoldable pub header_of_width : ℕ → List ℕ → Answer Head
 header_of_width w s =
     cond (leb (8 + w) (length s) && text_fits (text_length w s) (8 + w) (length s))
     (text_head (take (text_length w s) (drop (8 + w) s)) (8 + w + text_length w s))
@@ -63,12 +67,17 @@ length_width s =
     (cond (eqb (get_or s 6 0) 1) 2 (cond (eqb (get_or s 6 0) 2) 4 0))
     0
 
-unfoldable pub call_header : List ℕ → Head
+-- a width that is one of a version
+abbrev pub known_width : ℕ → Option ℕ
+known_width zero = None
+known_width (suc w) = Some (suc w)
+
+unfoldable pub call_header : List ℕ → Answer Head
 call_header s = cond (eqb (length_width s) 0) (refused_head Refusal.Magic) (header_of_width (length_width s) s)
 
 -- everything after the header; nothing where it is refused
 unfoldable pub data_of : List ℕ → List ℕ
-data_of s = cond (is_accepted (call_header s)) (drop (call_header s).at s) []
+data_of s = cond (is_accepted (call_header s)) (drop (given (call_header s)).at s) []
 
 -- a place of the memory block that a slice begins in: so many bytes after its start
 abbrev pub place_in : ℕ × ℕ → ℕ → ℕ × ℕ

@@ -1,6 +1,6 @@
 -- Laws of the header: one turn of its number, what the code answers in each case, the place of the data, and what a refused one says.
 -- Assumes nothing.
-use Rattle.std.specs.Prelude.{◌≡◌, refl, List, [], Bool, true, false, cond, ◌&&◌, ℕ, suc, ◌+◌, ◌*◌, ◌-◌, ◌%◌, ◌≤◌, ◌<◌, ◌^◌, length, get_or, take, drop, leb, eqb}
+use Rattle.std.specs.Prelude.{◌≡◌, refl, Some, None, Ok, Err, List, [], Bool, true, false, cond, ◌&&◌, ℕ, zero, suc, ◌+◌, ◌*◌, ◌-◌, ◌%◌, ◌≤◌, ◌<◌, ◌^◌, length, get_or, take, drop, leb, eqb}
 use Rattle.std.proofs.Common.{sym, ◌∙◌, ap, ⊎_elim, pow-suc, lt_of_lt_of_le, zero-add, arith, drop_of_length-le, length-take, drop-cons, lit<, le-leb, leb-true, eq-eqb, ne_eqb, eqb-true}
 use Rattle.std.proofs.Math.Nat.{pow-le-pow_right, add-sub_cancel_left, min-le_left}
 use Rattle.std.proofs.Math.ListN.{get_or-eq_default}
@@ -8,13 +8,14 @@ use Rattle.std.proofs.Math.Seq.{take-nil}
 use Rattle.std.proofs.lemmas.Bool.{lt-leb}
 use Rattle.lemmas.specs.Lists.{to_end}
 use Rattle.refusal.specs.declared.Refusal.{Refusal}
-use Rattle.refusal.specs.Refusal.{passes}
+use Rattle.refusal.specs.declared.Refused.{Refused}
+use Rattle.refusal.specs.Answers.{Answer, given, refusal_of, answer_of}
 use Rattle.lemmas.specs.Cases.{and_left, and_right, lt_or_le}
 use Rattle.npy.specs.declared.reader.Kind.{Kind}
 use Rattle.npy.specs.declared.reader.Head.{Head}
 use Rattle.npy.specs.declared.reader.Places.{Places}
 use Rattle.npy.specs.Text.{begins, decimal, kind_of, kind_end, rows_at, rows_end, cols_at, cols_end, places_of, spelled}
-use Rattle.npy.specs.Header.{low_first, magic, refused_head, accepted_head, is_accepted, text_head, text_fits, text_length, header_of_width, length_width, call_header, data_of, place_in}
+use Rattle.npy.specs.Header.{low_first, magic, no_head, refused_head, accepted_head, is_accepted, text_head, text_fits, text_length, header_of_width, length_width, known_width, call_header, data_of, place_in}
 
 -- one byte more of a number, from the high end: what is past the end counts as 0
 pub low_more : (s : List ℕ) (w i v : ℕ) → 0 < i → i ≤ w → v ≡ low_first (take (w - i) (drop i s))
@@ -64,7 +65,7 @@ pub good_text : (t : List ℕ) (at : ℕ) (p : Places) (b : Bool) (k : Kind) (r 
     → k ≡ kind_of (drop 11 t) (p.kind_end - 11)
     → r ≡ decimal 0 (take (p.rows_end - p.rows) (drop p.rows t))
     → c ≡ decimal 0 (take (p.cols_end - p.cols) (drop p.cols t))
-    → record { refusal = Refusal.None; kind = k; rows = r; cols = c; at = at } ≡ text_head t at
+    → Ok (record { kind = k; rows = r; cols = c; at = at }) ≡ text_head t at
 unfolding text_head accepted_head places_of
 good_text t at p b k r c hp hb h hk hr hc =
     let e : spelled t (places_of t) ≡ true = sym (hb ∙ ap (λ (q : Places). spelled t q) hp) ∙ h in
@@ -81,7 +82,7 @@ pub text_length_lem : (w n : ℕ) (s : List ℕ) → n ≡ low_first (take w (ta
 unfolding text_length
 text_length_lem w n s h = rw (to_end s 8) at h
 
-both_false : (a : Bool) (x y : Head) → y ≡ cond (a && false) x y
+both_false : (a : Bool) (x y : Answer Head) → y ≡ cond (a && false) x y
 both_false true x y = refl
 both_false false x y = refl
 
@@ -121,11 +122,11 @@ width_small s = one_of (leb 8 (length s) && (begins s magic && eqb (get_or s 7 0
 
 -- ---- the place of the data
 
-at_of : (b : Bool) (x y : Head) (n : ℕ) → (b ≡ true → x.at ≤ n) → y.at ≤ n → (cond b x y).at ≤ n
+at_of : (b : Bool) (x y : Answer Head) (n : ℕ) → (b ≡ true → (given x).at ≤ n) → (given y).at ≤ n → (given (cond b x y)).at ≤ n
 at_of true x y n hx hy = hx refl
 at_of false x y n hx hy = hy
 
-pub at_within : (s : List ℕ) → (call_header s).at ≤ length s
+pub at_within : (s : List ℕ) → (given (call_header s)).at ≤ length s
 unfolding call_header header_of_width text_head accepted_head refused_head
 at_within s =
     at_of (eqb (length_width s) 0) _ _ (length s) (λ e. omega arith)
@@ -136,6 +137,17 @@ at_within s =
     (omega arith))
     (omega arith))
 
+no_version : (w : ℕ) → None ≡ known_width w → w ≡ 0
+no_version zero h = refl
+no_version (suc w) h = (cc)
+
+version : (w v : ℕ) → Some w ≡ known_width v → (w ≡ v) × (w ≡ 0 → ⊥)
+version w zero h = (cc)
+version w (suc v) h = let e : w ≡ suc v = (cc) in (e, λ (z : w ≡ 0). omega arith)
+
+pub head_within : (s : List ℕ) (h : Head) → Ok h ≡ call_header s → h.at ≤ length s
+head_within s h e = rw (← e) at (at_within s)
+
 pub no_width : (s : List ℕ) (w : ℕ) → w ≡ length_width s → w ≡ 0 → refused_head Refusal.Magic ≡ call_header s
 unfolding call_header
 no_width s w h e = let z : length_width s ≡ 0 = sym h ∙ e in simp (eq-eqb _ _ z)
@@ -144,19 +156,34 @@ pub by_width : (s : List ℕ) (w : ℕ) → w ≡ length_width s → (w ≡ 0 �
 unfolding call_header
 by_width s w h e = rw (← h, ne_eqb w 0 e)
 
-pub data_refused : (s : List ℕ) (h : Head) (t : Bool) → h ≡ call_header s → t ≡ is_accepted h → t ≡ false → [] ≡ data_of s
+-- the same by the width that the code finds, which is none where the start is of neither version
+pub no_known_width : (s : List ℕ) → None ≡ known_width (length_width s) → refused_head Refusal.Magic ≡ call_header s
+no_known_width s h = no_width s _ refl (no_version _ h)
+
+pub by_known_width : (s : List ℕ) (w : ℕ) → Some w ≡ known_width (length_width s) → (w ≤ 4) × (header_of_width w s ≡ call_header s)
+by_known_width s w h = let v = version w _ h in (rw v.0 (width_small s), by_width s w v.0 v.1)
+
+pub data_refused : (s : List ℕ) (h : Answer Head) (t : Bool) → h ≡ call_header s → t ≡ is_accepted h → t ≡ false → [] ≡ data_of s
 unfolding data_of
 data_refused s h t e et g = rw (← e, ← et, g)
 
-pub data_given : (s : List ℕ) (h : Head) (t : Bool) → h ≡ call_header s → t ≡ is_accepted h → t ≡ true → take (length s - h.at) (drop h.at s) ≡ data_of s
+pub data_given : (s : List ℕ) (h : Answer Head) (t : Bool) → h ≡ call_header s → t ≡ is_accepted h → t ≡ true
+    → take (length s - (given h).at) (drop (given h).at s) ≡ data_of s
 unfolding data_of
-data_given s h t e et g = to_end s h.at ∙ rw (← e, ← et, g)
+data_given s h t e et g = to_end s (given h).at ∙ rw (← e, ← et, g)
+
+-- the same of an answer whose case is known
+pub data_empty : (s : List ℕ) (r : Refused Head) → Err r ≡ call_header s → [] ≡ data_of s
+data_empty s r e = data_refused s (Err r) false e refl refl
+
+pub data_after : (s : List ℕ) (h : Head) → Ok h ≡ call_header s → take (length s - h.at) (drop h.at s) ≡ data_of s
+data_after s h e = data_given s (Ok h) true e refl refl
 
 -- a header that is refused says nothing else
-abbrev Bare : Head → Type 0
-Bare h = is_accepted h ≡ false → h ≡ refused_head h.refusal
+abbrev Bare : Answer Head → Type 0
+Bare h = is_accepted h ≡ false → h ≡ answer_of (refusal_of h) no_head
 
-bare_of : (b : Bool) (x y : Head) → Bare x → Bare y → Bare (cond b x y)
+bare_of : (b : Bool) (x y : Answer Head) → Bare x → Bare y → Bare (cond b x y)
 bare_of true x y hx hy = hx
 bare_of false x y hx hy = hy
 
@@ -165,14 +192,14 @@ unfolding refused_head
 bare-refused r h = refl
 
 bare-accepted : (k : Kind) (r c at : ℕ) → Bare (accepted_head k r c at)
-unfolding accepted_head passes
+unfolding accepted_head
 bare-accepted k r c at h = let z : true ≡ false = h in (cc)
 
 bare-text : (t : List ℕ) (at : ℕ) → Bare (text_head t at)
 unfolding text_head
 bare-text t at = bare_of (spelled t (places_of t)) (accepted_head _ _ _ at) (refused_head Refusal.Header) (bare-accepted _ _ _ at) (bare-refused Refusal.Header)
 
-pub refused_is : (s : List ℕ) → is_accepted (call_header s) ≡ false → call_header s ≡ refused_head (call_header s).refusal
+pub refused_is : (s : List ℕ) → is_accepted (call_header s) ≡ false → call_header s ≡ answer_of (refusal_of (call_header s)) no_head
 unfolding call_header header_of_width
 refused_is s =
     bare_of (eqb (length_width s) 0) (refused_head Refusal.Magic) (header_of_width (length_width s) s) (bare-refused Refusal.Magic)
@@ -181,9 +208,15 @@ refused_is s =
     (bare-text (take (text_length (length_width s) s) (drop (8 + length_width s) s)) (8 + length_width s + text_length (length_width s) s))
     (bare-refused Refusal.Header))
 
-pub refused_at : (s : List ℕ) (h : Head) (t : Bool) → h ≡ call_header s → t ≡ is_accepted h → t ≡ false → (call_header s).at ≡ 0
-unfolding refused_head
-refused_at s h t e et g = ap (λ (x : Head). x.at) (refused_is s (rw (← e, ← et) g))
+pub refused_at : (s : List ℕ) (h : Answer Head) (t : Bool) → h ≡ call_header s → t ≡ is_accepted h → t ≡ false → (given (call_header s)).at ≡ 0
+refused_at s h t e et g = empty_at (call_header s) (refused_is s (rw (← e, ← et) g))
+  where
+    empty_at : (x : Answer Head) → x ≡ answer_of (refusal_of x) no_head → (given x).at ≡ 0
+    empty_at (Ok a) q = ap (λ (x : Answer Head). (given x).at) q
+    empty_at (Err r) q = ap (λ (x : Answer Head). (given x).at) q
+
+pub refused_place : (s : List ℕ) (r : Refused Head) → Err r ≡ call_header s → (given (call_header s)).at ≡ 0
+refused_place s r e = refused_at s (Err r) false e refl refl
 
 pub text-short : (s : List ℕ) (b n : ℕ) → n ≤ 1000 → length (take (b + n - b) (drop b s)) ≤ 1000
 text-short s b n h = rw (add-sub_cancel_left, length-take) (omega (arith, min-le_left n (length (drop b s))))

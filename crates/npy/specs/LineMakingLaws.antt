@@ -1,6 +1,6 @@
 -- Lines made of words with spaces: words in parts, and a line feed in place of the last space of each line. Assumes nothing.
 use Rattle.std.specs.Prelude.{◌≡◌, refl, List, [], ◌∷◌, ◌++◌, ℕ, zero, suc, ◌+◌, ◌-◌, ◌*◌, ◌/◌, ◌%◌, ◌≤◌, ◌<◌, length, set, take, drop, Float}
-use Rattle.std.proofs.Common.{sym, ap, ◌∙◌, zero-mul, suc-mul, mul_left_comm, div-one, div-add-mod', arith, drop_of_length-le, length-drop, take-append-drop, drop-drop, length-take-le, set-set}
+use Rattle.std.proofs.Common.{sym, ap, ◌∙◌, zero-mul, suc-mul, mul_left_comm, div-one, div-add-mod', arith, length-drop, take-append-drop, length-take-le, set-set, drop-drop, drop_of_length-le}
 use Rattle.std.proofs.lemmas.List.{set_comm}
 use Rattle.std.proofs.lemmas.List.Edits.{sets}
 use Rattle.lemmas.specs.Lists.{sets_append}
@@ -52,6 +52,17 @@ words_more v l m after at i e p q em =
 pub words_done : (v : List Float) (l : List ℕ) (after o i : ℕ) → length v ≤ i → l ≡ sets l o (words_of after (drop i v))
 unfolding words_of
 words_done v l after o i h = rw (drop_of_length-le v h)
+
+pub words_joined : (part rest v : List Float) (l m : List ℕ) (after o : ℕ) → v ≡ part ++ rest → m ≡ sets l o (words_of after part)
+    → sets m (o + 9 * length part) (words_of after rest) ≡ sets l o (words_of after v)
+words_joined part rest v l m after o ev em =
+    let next : o + length (words_of after part) ≡ o + 9 * length part = omega (arith, words_length after part) in
+    rw (em, ev, ← next, ← sets_append (words_of after part) (words_of after rest) l o, ← words_append after part rest)
+
+pub words_all : (v : List Float) (l : List ℕ) (after o : ℕ) → length v ≡ 0 → l ≡ sets l o (words_of after v)
+unfolding words_of
+words_all [] l after o h = refl
+words_all (x ∷ v) l after o h = let z : suc (length v) ≡ 0 = h in absurd (omega arith)
 
 -- ---- lines
 
@@ -125,3 +136,19 @@ ends-room zero w o len h r = absurd (omega arith)
 ends-room (suc left) w o len h r =
     let a : suc left - 1 ≡ left = omega arith in
     rw a (omega (arith, suc-mul left w))
+
+-- the same by the number of lines that have their feed
+pub ends_on : (l : List ℕ) (n i w o : ℕ) → i < n → end_lines (n - (i + 1)) w (o + w) (set l (o + w - 1) 10) ≡ end_lines (n - i) w o l
+unfolding end_lines
+ends_on l n i w o h = let a : n - i ≡ suc (n - (i + 1)) = omega arith in rw a
+
+pub ends_over : (l : List ℕ) (n i w o : ℕ) → n ≤ i → l ≡ end_lines (n - i) w o l
+unfolding end_lines
+ends_over l n i w o h = let a : n - i ≡ 0 = omega arith in rw a
+
+-- the next line is there
+pub ends_fit : (n i w o len : ℕ) → i < n → o + (n - i) * w ≤ len → o + w + (n - (i + 1)) * w ≤ len
+ends_fit n i w o len h r =
+    let a : n - i ≡ suc (n - (i + 1)) = omega arith in
+    let b : o + suc (n - (i + 1)) * w ≤ len = rw a at r in
+    omega (arith, suc-mul (n - (i + 1)) w)

@@ -1,8 +1,10 @@
 -- Words by way of numbers that hold four digits each. Four digits are found at once: halves stand apart, and a sum turns every digit into
 -- its letter. The bytes of two such numbers are a word. Assumes nothing.
-use Rattle.std.specs.Prelude.{◌≡◌, refl, List, [], ◌∷◌, ◌++◌, Bool, true, false, cond, ℕ, zero, suc, ◌+◌, ◌-◌, ◌*◌, ◌/◌, ◌%◌, ◌^◌, ◌≤◌, ◌<◌, ltb, length, get_or, set, drop, Float}
+use Rattle.std.specs.Prelude.{◌≡◌, refl, List, [], ◌∷◌, ◌++◌, Bool, true, false, cond, ℕ, zero, suc, ◌+◌, ◌-◌, ◌*◌, ◌/◌, ◌%◌, ◌^◌, ◌≤◌, ◌<◌, ltb, length, get_or, set, take, drop, Float}
 use Rattle.std.proofs.Common.{sym, ap, ◌∙◌, append_assoc, add-one, arith, drop_of_length-le, drop-cons, drop-drop, get_or-drop, ltb-true, ltb-false}
+use Rattle.std.specs.Int.{w32, to_le_bytes}
 use Rattle.std.specs.Int.Bits.{bit_and}
+use borrow.Rule.Slice.PartMut.{put_mid}
 use Rattle.std.proofs.lemmas.Nat.Bits.{and_high}
 use Rattle.std.proofs.lemmas.Nat.{and_le_l, and_le_r}
 use Rattle.std.proofs.lemmas.List.Edits.{sets, sets-eq}
@@ -123,6 +125,17 @@ packed_length (x ∷ v) = let h = packed_length v in omega arith
 
 -- ---- the bytes of four digits
 
+low_four : (v : ℕ) → to_le_bytes w32 v ≡ low_bytes 4 v
+unfolding low_bytes
+low_four v =
+    let q2 : v / 0x1_0000 ≡ v / 256 / 256 = omega arith in
+    let q3 : v / 0x100_0000 ≡ v / 256 / 256 / 256 = omega arith in
+    rw (q2, q3)
+
+low_length : (v : ℕ) → length (low_bytes 4 v) ≡ 4
+unfolding low_bytes
+low_length v = refl
+
 pub four_stored : (l : List ℕ) (o v : ℕ)
     → set (set (set (set l o (v % 256)) (o + 1) (v / 0x100 % 256)) (o + 2) (v / 0x1_0000 % 256)) (o + 3) (v / 0x100_0000 % 256) ≡ sets l o (low_bytes 4 v)
 unfolding low_bytes
@@ -133,6 +146,13 @@ four_stored l o v =
     let q2 : v / 0x1_0000 ≡ v / 256 / 256 = omega arith in
     let q3 : v / 0x100_0000 ≡ v / 256 / 256 / 256 = omega arith in
     rw (p1, p2, p3, q2, q3)
+
+pub four_copied : (l : List ℕ) (o v : ℕ) (b m : List ℕ) → o + 4 ≤ length l → b ≡ to_le_bytes w32 v → m ≡ b → put_mid o (o + 4 - o) l m ≡ sets l o (low_bytes 4 v)
+four_copied l o v b m h eb em =
+    let e : m ≡ low_bytes 4 v = em ∙ eb ∙ low_four v in
+    let k : o + 4 - o ≡ 4 = omega arith in
+    rw (e, k, sets-eq (low_bytes 4 v) l o (omega (arith, low_length v)), low_length v)
+    (ap (λ (t : List ℕ). take o l ++ (low_bytes 4 v ++ t)) (drop-drop 4 o l) ∙ sym (append_assoc (take o l) (low_bytes 4 v) (drop (o + 4) l)))
 
 hex-byte : (n : ℕ) → hex_of (n % 16) < 256
 hex-byte n = let e = hex-sum (n % 16) (omega arith) in omega arith

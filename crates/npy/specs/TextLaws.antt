@@ -1,11 +1,35 @@
 -- One turn of each definition over a list of bytes, at a place of the list. Assumes nothing.
-use Rattle.std.specs.Prelude.{◌≡◌, refl, List, [], ◌∷◌, Bool, true, false, cond, not, ◌&&◌, ◌||◌, ℕ, suc, ◌+◌, ◌*◌, ◌-◌, ◌≤◌, ◌<◌, ◌^◌, length, get_or, take, drop, eqb, leb, ltb}
-use Rattle.std.proofs.Common.{sym, ◌∙◌, ⊎_elim, le-leb, leb-true, eqb-true, add-one, arith, add-zero, pow-suc, drop_of_length-le, length-drop, drop-cons, lit<}
-use Rattle.std.proofs.lemmas.Bool.{lt-leb}
 use Rattle.std.proofs.Math.Nat.{pow-le-pow_right}
+use Rattle.std.specs.Prelude.{◌≡◌, refl, List, [], ◌∷◌, Bool, true, false, cond, not, ◌&&◌, ◌||◌, ℕ, suc, ◌+◌, ◌*◌, ◌-◌, ◌≤◌, ◌<◌, ◌^◌, length, get_or, take, drop, min, max, eqb, leb, ltb}
+use Rattle.std.specs.List.{starts_with}
+use Rattle.std.proofs.Common.{sym, ap, ◌∙◌, ⊎_elim, le-leb, leb-true, eqb-true, eq-eqb, ne_eqb, add-one, arith, add-zero, pow-suc, drop_of_length-le, length-drop, drop-cons, lit<}
+use Rattle.std.proofs.lemmas.Bool.{lt-leb, eqb-false}
+use Rattle.std.proofs.lemmas.List.{drop_min}
+use Rattle.lemmas.specs.Lists.{to_end}
 use Rattle.lemmas.specs.Cases.{and_left, and_right, lt_or_le}
 use Rattle.npy.specs.declared.reader.Places.{Places}
 use Rattle.npy.specs.Text.{begins, is_kind_byte, is_digit, is_space, lead_count, end_of, decimal, kind_fits, is_number, before_kind, before_rows, before_cols, after_cols, line_feed, kind_end, rows_at, rows_end, cols_at, cols_end, feed_at, places_of, front_spelled, shape_spelled, end_spelled, spelled}
+
+eqb-comm : (a b : ℕ) → eqb a b ≡ eqb b a
+eqb-comm a b = go (eqb b a) refl
+  where
+    go : (t : Bool) → eqb b a ≡ t → eqb a b ≡ t
+    go true e = eq-eqb a b (sym (eqb-true b a e))
+    go false e = ne_eqb a b (λ (h : a ≡ b). eqb-false b a e (sym h))
+
+-- what the library's `starts_with` tests
+pub begins_is : (w s : List ℕ) → starts_with eqb s w ≡ begins s w
+unfolding begins
+begins_is [] s = refl
+begins_is (x ∷ w) [] = refl
+begins_is (x ∷ w) (y ∷ s) = ap (λ (b : Bool). b && starts_with eqb s w) (eqb-comm x y) ∙ heads (eqb y x) (begins_is w s)
+  where
+    heads : (b : Bool) → starts_with eqb s w ≡ begins s w → (b && starts_with eqb s w) ≡ cond b (begins s w) false
+    heads true h = h
+    heads false h = refl
+
+pub begins_there : (s w : List ℕ) (i at : ℕ) (b : Bool) → at ≡ min i (length s) → b ≡ starts_with eqb (take (length s - at) (drop at s)) w → b ≡ begins (drop i s) w
+begins_there s w i at b ha hb = hb ∙ begins_is w _ ∙ rw (to_end s at, ha, drop_min)
 
 begins_step : (s w : List ℕ) (i j : ℕ) → i < length s → j < length w
     → begins (drop i s) (drop j w) ≡ cond (eqb (get_or s i 0) (get_or w j 0)) (begins (drop (i + 1) s) (drop (j + 1) w)) false
@@ -45,6 +69,14 @@ pub end_more : (p : ℕ → Bool) (s : List ℕ) (i : ℕ) → i < length s → 
 unfolding end_of
 end_more p s i h e = rw (lead_step p s i h, e) (omega arith)
 
+-- past the last byte of the class, or past the list
+pub end_last : (p : ℕ → Bool) (s : List ℕ) (at i m : ℕ) → at ≤ i → (at ≤ length s → i ≤ length s) → length s ≤ i → m ≡ max at (length s) → end_of p s i ≡ end_of p s at → m ≡ end_of p s at
+end_last p s at i m ha hi h e g =
+    ⊎_elim
+    (λ (l : at < length s). let a : m ≡ i = omega (arith, hi) in a ∙ end_past p s i h ∙ g)
+    (λ (l : length s ≤ at). let a : m ≡ at = omega arith in a ∙ end_past p s at l)
+    (lt_or_le at (length s))
+
 pub lead_within : (p : ℕ → Bool) (l : List ℕ) → lead_count p l ≤ length l
 unfolding lead_count
 lead_within p [] = omega arith
@@ -73,7 +105,6 @@ pub decimal_done : (s : List ℕ) (v i e : ℕ) → e ≤ i → v ≡ decimal v 
 unfolding decimal
 decimal_done s v i e h = let a : e - i ≡ 0 = omega arith in rw a
 
--- bytes that are no digits count up to 207, so that n of them stand for less than 23 · 10ⁿ
 pub tens_more : (v d i at : ℕ) → at ≤ i → v + 23 ≤ 23 * 10 ^ (i - at) → d ≤ 207 → v * 10 + d + 23 ≤ 23 * 10 ^ (i + 1 - at)
 tens_more v d i at hi h hd =
     let a : i + 1 - at ≡ suc (i - at) = omega arith in
@@ -83,6 +114,18 @@ pub tens_fit : (v i at : ℕ) → v + 23 ≤ 23 * 10 ^ (i - at) → i - at ≤ 8
 tens_fit v i at h hi =
     let b : 10 ^ (i - at) ≤ 10 ^ 8 = pow-le-pow_right {n = 10} (lit< tt) {i = i - at} {j = 8} hi in
     omega arith
+
+pub decimal_on : (l : List ℕ) (v i d : ℕ) → i < length l → d ≡ get_or l i 0 - 0x30 → decimal (v * 10 + d) (drop (i + 1) l) ≡ decimal v (drop i l)
+unfolding decimal
+decimal_on l v i d h e = rw (e, drop-cons l i 0, add-one i)
+
+pub decimal_over : (l : List ℕ) (v i : ℕ) → length l ≤ i → v ≡ decimal v (drop i l)
+unfolding decimal
+decimal_over l v i h = rw (drop_of_length-le l h)
+
+-- bytes that are no digits count up to 207, so that n of them stand for less than 23 · 10ⁿ
+pub tens_on : (v d i : ℕ) → v + 23 ≤ 23 * 10 ^ i → d ≤ 207 → v * 10 + d + 23 ≤ 23 * 10 ^ (i + 1)
+tens_on v d i h hd = rw (add-one i, pow-suc) (omega arith)
 
 pub kind_short : (e : ℕ) → e < 12 → false ≡ kind_fits (e - 11)
 unfolding kind_fits

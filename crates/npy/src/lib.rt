@@ -5,6 +5,6 @@ mod decoder;
 mod reader;
 mod writer;
 
-pub use decoder::{cell, cells, least};
+pub use decoder::{cell, cells};
 pub use reader::{Head, Kind, data, header};
 pub use writer::{put_line, put_lines};

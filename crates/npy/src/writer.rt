@@ -7,6 +7,7 @@ ghost use Rattle.npy.specs.Lines.{lines_of};
 ghost use Rattle.npy.specs.PutLines.{line_fits, line_end, put_line, lines_fit, lines_end, put_lines};
 ghost use Rattle.npy.specs.PackedDigits.{hex_four, packed_digits, low_bytes, unpacked_words};
 
+// Kept: digits by arithmetic, and no formatting. The contract says which digits these are, and nothing says what a format writes.
 // The lower 4 digits of v as the bytes of one number, the first digit lowest: all of them at once. First the two bytes of v stand apart,
 // then the four digits. 118 more sets the top bit of a byte where its digit is 10 or more, and of that bit less 1 a mask leaves 39, by
 // which 'a' comes after the character behind '9'. A product by 39 would be slow in vectors.
@@ -19,19 +20,16 @@ fn four_digits(v: u32) -> u32
     c + 0x3030_3030 + ((letters - letters / 0x80) & 0x2727_2727)
 }
 
-// The digits of the values, two numbers a value. The compiler makes vectors of this loop, four values at a time: that is why it is a loop
-// of its own, why it writes no bytes, and why its numbers have 32 bits.
+// The digits of the values, two numbers a value. A compiler can make vectors of this loop, four values at a time (CONTRIBUTING.md, 'Vectors'):
+// that is why it is a loop of its own, why it writes no bytes, and why its numbers have 32 bits.
 fn find_digits(values: &[f32], digits: &mut [u32])
     requires { 2 * length values.now ≤ length digits.old }
     ensures { digits.new ≡ sets digits.old 0 (packed_digits values.now) }
 {
-    let n = values.len();
-    let mut i = 0;
-    while i < n {
+    for i in 0..values.len() {
         let v = float::to_bits(values[i]);
         digits[2 * i] = four_digits(v / 0x1_0000);
         digits[2 * i + 1] = four_digits(v);
-        i += 1;
     }
 }
 
@@ -40,10 +38,7 @@ fn put_four(out: &mut [u8], o: usize, v: u32)
     requires { o + 4 ≤ length out.old }
     ensures { out.new ≡ sets out.old o (low_bytes 4 v) }
 {
-    out[o] = (v % 256) as u8;
-    out[o + 1] = (v / 0x100 % 256) as u8;
-    out[o + 2] = (v / 0x1_0000 % 256) as u8;
-    out[o + 3] = (v / 0x100_0000 % 256) as u8;
+    out[o..o + 4].copy_from_slice(&v.to_le_bytes());
 }
 
 // The words of n values from their digits, each with the same byte after it.
@@ -51,13 +46,11 @@ fn join_digits(digits: &[u32], n: usize, after: u8, out: &mut [u8], at: usize)
     requires { (2 * n ≤ length digits.now) × (at + 9 * n ≤ length out.old) }
     ensures { out.new ≡ sets out.old at (unpacked_words after n digits.now) }
 {
-    let mut i = 0;
-    while i < n {
+    for i in 0..n {
         let o = at + 9 * i;
         put_four(out, o, digits[2 * i]);
         put_four(out, o + 4, digits[2 * i + 1]);
         out[o + 8] = after;
-        i += 1;
     }
 }
 
@@ -71,20 +64,18 @@ fn put_block(values: &[f32], digits: &mut [u32], after: u8, out: &mut [u8], at: 
     join_digits(digits, values.len(), after, out, at);
 }
 
+// Kept: a place in `out` beside it, and no part of it. The calls of document 01 go on from a place, and the contracts say what stands before it.
 // The words, each with the same byte after it: 64 at a time, so that their digits stay in the cache, and then the rest.
 fn put_words(values: &[f32], after: u8, out: &mut [u8], at: usize)
     requires { at + 9 * length values.now ≤ length out.old }
     ensures { out.new ≡ sets out.old at (words_of after values.now) }
 {
-    let n = values.len();
     let mut digits = [0u32; 128];
-    let mut i = 0;
-    while 64 <= n - i {
-        let end = i + 64;
-        put_block(&values[i..end], &mut digits, after, out, at + 9 * i);
-        i = end;
+    let mut o = at;
+    for part in values.chunks(64) {
+        put_block(part, &mut digits, after, out, o);
+        o += 9 * part.len();
     }
-    put_block(&values[i..], &mut digits, after, out, at + 9 * i);
 }
 
 // A line feed after the last word of each of n lines of k words, in place of what stands there.
@@ -93,11 +84,9 @@ fn end_lines(out: &mut [u8], at: usize, k: usize, n: usize)
     ensures { out.new ≡ end_lines n (9 * k) at out.old }
 {
     let mut o = at;
-    let mut left = n;
-    while 0 < left {
+    for _line in 0..n {
         o += 9 * k;
         out[o - 1] = b'\n';
-        left -= 1;
     }
 }
 
@@ -116,30 +105,20 @@ fn put_rows(values: &[f32], k: usize, out: &mut [u8], at: usize)
 }
 
 // Whether n words, 9 bytes each, fit from a place on.
+#[tactic(auto, unfolding(crate::specs::PutLines::line_fits))]
 fn line_fits(at: usize, n: usize, len: usize) -> bool
     ensures { result ≡ line_fits at n len }
 {
-    if len < at {
-        return false;
-    }
-    // A product is quicker than a quotient, where it cannot be too large.
-    if n < 0x1_0000_0000 {
-        return n * 9 <= len - at;
-    }
-    n <= (len - at) / 9
+    // A product is quicker than a quotient.
+    at <= len && n.checked_mul(9).is_some_and(|size| size <= len - at)
 }
 
 // Whether n words are whole rows of k, and fit from a place on.
+#[tactic(auto, unfolding(crate::specs::PutLines::lines_fit))]
 fn lines_fit(at: usize, k: usize, n: usize, len: usize) -> bool
     ensures { result ≡ lines_fit at k n len }
 {
-    if k == 0 {
-        return false;
-    }
-    if n % k != 0 {
-        return false;
-    }
-    line_fits(at, n, len)
+    k != 0 && n % k == 0 && line_fits(at, n, len)
 }
 
 // Writes a row's line at a place, and answers the place after it. Where it does not fit, nothing is written and the

@@ -12,6 +12,7 @@ use Rattle.float.specs.F32.{◌+f◌, ◌-f◌, ◌*f◌, ◌/f◌}
 use Rattle.float.specs.Float.{abs_f}
 use Rattle.float.specs.FloatLaws.{zero_is, zero_equals}
 use Rattle.float.specs.OperationLaws.{zero_times, div-zero, nonfinite_mul, add_nonfinite}
+use Rattle.refusal.specs.Answers.{given}
 use Rattle.filters.specs.Lowpass2.{set_dt_lowpass2}
 use Rattle.filters.specs.LowpassLaws.{Passing, new_passing, passed, off_answers}
 use Rattle.filters.specs.Lowpass2Laws.{Off2, Passing2, Lost2, new_passing2, passes2, goes_on2, becomes_lost2, stays_lost2}
@@ -29,7 +30,7 @@ unfolding step_rate_pid terms_of total_of meas_derivative_of d_gain_of
 dt_zero s r m p h = (add_nonfinite _ _ (nonfinite_mul (s.kd /f s.dt) (s.prev_meas -f filtered_of s m) (div-zero s.kd s.dt h)), refl)
 
 -- so of the call, on every state that is not refused
-pub dt_zero_call : (s : RatePid) (r m p : Float) → bad_rate_pid s ≡ false → eq s.dt F.zero ≡ true → finite (call_update_rate_pid s r m p).answer.y ≡ false
+pub dt_zero_call : (s : RatePid) (r m p : Float) → bad_rate_pid s ≡ false → eq s.dt F.zero ≡ true → finite (given (call_update_rate_pid s r m p).answer) ≡ false
 dt_zero_call s r m p good h = rw (update_accepted s good r m p) (dt_zero s r m p h).0
 
 -- ---- which filters are off
@@ -40,13 +41,13 @@ unfolding new_rate_pid
 new_measurement_off kp ki kd tau dt h = new_passing2 tau dt (sum-zero_off tau dt F.zero h)
 
 pub set_ts_measurement_off : (s : RatePid) (ts : Float) → bad_rate_pid s ≡ false → eq (s.d_lowpass.first.tau +f ts) F.zero ≡ true → eq (s.d_lowpass.second.tau +f ts) F.zero ≡ true
-    → Off2 (call_set_ts_rate_pid s ts).pid.d_lowpass
+    → Off2 (given (call_set_ts_rate_pid s ts)).d_lowpass
 unfolding call_set_ts_rate_pid guarded set_ts_rate_pid
 set_ts_measurement_off s ts good h k = rw good (set_dt_off2 s.d_lowpass ts h k)
 
 -- `set_ts` sets the measurement's alone
 pub set_ts_filters : (s : RatePid) (ts : Float) → bad_rate_pid s ≡ false
-    → ((call_set_ts_rate_pid s ts).pid.d_lowpass ≡ set_dt_lowpass2 s.d_lowpass ts) × ((call_set_ts_rate_pid s ts).pid.lowpass ≡ s.lowpass)
+    → ((given (call_set_ts_rate_pid s ts)).d_lowpass ≡ set_dt_lowpass2 s.d_lowpass ts) × ((given (call_set_ts_rate_pid s ts)).lowpass ≡ s.lowpass)
 unfolding call_set_ts_rate_pid guarded set_ts_rate_pid
 set_ts_filters s ts good = rw good (refl, refl)
 

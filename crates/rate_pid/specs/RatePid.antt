@@ -1,24 +1,22 @@
 -- rate_pid.rs: what the controller does, and its calls, which refuse a bad stored slew limit (3).
-use Rattle.std.specs.Prelude.{Bool, true, false, cond, ◌&&◌, Float}
+use Rattle.std.specs.Prelude.{Bool, true, false, cond, ◌&&◌, Option, Some, None, Float}
 use Rattle.std.specs.Float.{binary32}
 use Rattle.std.specs.Float.Ieee.{lt, of_bits}
 use Rattle.float.specs.F32 as F
 use Rattle.float.specs.F32.{◌+f◌, ◌-f◌, ◌*f◌, ◌/f◌}
 use Rattle.float.specs.Float.{abs_f, clamp_f}
 use Rattle.refusal.specs.declared.Refusal.{Refusal}
+use Rattle.refusal.specs.Answers.{Answer, answer_of}
+use Rattle.step.specs.declared.Stepped.{Stepped}
 use Rattle.filters.specs.declared.lowpass.Lowpass.{Lowpass}
-use Rattle.filters.specs.declared.lowpass.Lowpassed.{Lowpassed}
+use Rattle.filters.specs.declared.slew_rate.SlewRate.{SlewRate}
 use Rattle.filters.specs.Lowpass.{new_lowpass, step_lowpass}
 use Rattle.filters.specs.Lowpass2.{new_lowpass2, set_dt_lowpass2, step_lowpass2}
 use Rattle.filters.specs.SlewRate.{bad_limit, slew_of}
 use Rattle.rate_pid.specs.declared.PidTerms.{PidTerms}
 use Rattle.rate_pid.specs.declared.RatePid.{RatePid}
 use Rattle.rate_pid.specs.declared.Integrated.{Integrated}
-use Rattle.rate_pid.specs.declared.Advanced.{Advanced}
-use Rattle.rate_pid.specs.declared.Changed.{Changed}
 use Rattle.rate_pid.specs.declared.Updated.{Updated}
-use Rattle.rate_pid.specs.declared.Terms.{Terms}
-use Rattle.rate_pid.specs.declared.slew.Slew.{Slew}
 use Rattle.rate_pid.specs.Slew.{is_off, bad_slew, set_dt_slew, step_slew}
 
 abbrev pub ten : Float
@@ -44,7 +42,7 @@ zero_rate_pid = record {
   integral_en = false;
   lowpass = zero_lowpass;
   d_lowpass = record { first = zero_lowpass; second = zero_lowpass };
-  d_slew = Slew.Off;
+  d_slew = None;
 }
 
 -- ---- the parts of an update, whatever the limit: s is the state before it, r the reference, m the measurement, p the prediction
@@ -76,7 +74,7 @@ unfoldable pub calm_of : RatePid → Float → Float → Bool
 calm_of s r m = calm s.integral_en (filtered_of s m) (slewed_of s r)
 
 -- the damping filter, fed the size of the measurement's derivative
-unfoldable pub damped_of : RatePid → Float → Lowpassed
+unfoldable pub damped_of : RatePid → Float → Stepped Lowpass
 damped_of s derivative = step_lowpass s.lowpass (abs_f derivative)
 
 -- what the integral's growth is divided by
@@ -91,7 +89,7 @@ grown_of s derivative error = clamp_f (s.integral +f s.ki *f error *f s.dt /f da
 unfoldable pub integrated : RatePid → Bool → Float → Float → Integrated
 integrated s moves derivative error =
     cond moves
-    (record { integral = grown_of s derivative error; lowpass = (damped_of s derivative).filter })
+    (record { integral = grown_of s derivative error; lowpass = (damped_of s derivative).state })
     (record { integral = s.integral; lowpass = s.lowpass })
 
 unfoldable pub integrated_of : RatePid → Float → Float → Float → Integrated
@@ -120,16 +118,16 @@ step_rate_pid s r m p = record {
   dt = s.dt;
   integral_en = s.integral_en;
   lowpass = (integrated_of s r m p).lowpass;
-  d_lowpass = (step_lowpass2 s.d_lowpass m).filter;
-  d_slew = (step_slew s.d_slew r).slew;
+  d_lowpass = (step_lowpass2 s.d_lowpass m).state;
+  d_slew = (step_slew s.d_slew r).state;
 }
 
 unfoldable pub total_of : PidTerms → Float
 total_of t = t.p_out +f t.i_out +f t.dr_out +f t.dm_out
 
 -- the value of an update, and the state after it
-unfoldable pub summed : RatePid → Advanced
-summed next = record { y = total_of next.terms; pid = next }
+unfoldable pub summed : RatePid → Stepped RatePid
+summed next = record { y = total_of next.terms; state = next }
 
 -- ---- what the other calls do, whatever the limit
 
@@ -146,11 +144,11 @@ new_rate_pid kp ki kd tau dt = record {
   integral_en = true;
   lowpass = new_lowpass (tau *f ten) dt;
   d_lowpass = new_lowpass2 tau dt;
-  d_slew = Slew.Off;
+  d_slew = None;
 }
 
 -- the limiter alone is another
-unfoldable pub with_slew : RatePid → Slew → RatePid
+unfoldable pub with_slew : RatePid → Option SlewRate → RatePid
 with_slew s d = record {
   kp = s.kp;
   ki = s.ki;
@@ -171,12 +169,12 @@ unfoldable pub unlimited_rate_pid : RatePid → Bool
 unlimited_rate_pid s = is_off s.d_slew
 
 -- an update of the state with its limiter taken off
-unfoldable pub advanced : RatePid → Float → Float → Float → Advanced
-advanced s r m p = summed (step_rate_pid (with_slew s Slew.Off) r m p)
+unfoldable pub advanced : RatePid → Float → Float → Float → Stepped RatePid
+advanced s r m p = summed (step_rate_pid (with_slew s None) r m p)
 
 -- a limiter that starts at +0, with the controller's sample time
 unfoldable pub slew_rate_pid : RatePid → Float → RatePid
-slew_rate_pid s limit = with_slew s (Slew.On (slew_of limit F.zero s.dt))
+slew_rate_pid s limit = with_slew s (Some (slew_of limit F.zero s.dt))
 
 -- dt, and that of the measurement's filter and of the limiter; the damping filter keeps its own
 unfoldable pub set_ts_rate_pid : RatePid → Float → RatePid
@@ -251,41 +249,41 @@ reset_integral_rate_pid s = record {
 unfoldable pub bad_rate_pid : RatePid → Bool
 bad_rate_pid s = bad_slew s.d_slew
 
-abbrev pub changed_rate_pid : Refusal → RatePid → Changed
-changed_rate_pid why s = record { refusal = why; pid = s }
+abbrev pub changed_rate_pid : Option Refusal → RatePid → Answer RatePid
+changed_rate_pid why s = answer_of why s
 
-abbrev pub updated_rate_pid : Refusal → Float → RatePid → Updated
-updated_rate_pid why y s = record { answer = record { refusal = why; y = y }; pid = s }
+abbrev pub updated_rate_pid : Option Refusal → Float → RatePid → Updated
+updated_rate_pid why y s = record { answer = answer_of why y; pid = s }
 
-abbrev pub terms_rate_pid : Refusal → PidTerms → Terms
-terms_rate_pid why t = record { refusal = why; terms = t }
+abbrev pub terms_rate_pid : Option Refusal → PidTerms → Answer PidTerms
+terms_rate_pid why t = answer_of why t
 
 -- the stored limit is tested before anything that the call itself refuses
-unfoldable pub guarded : RatePid → Changed → Changed
-guarded s next = cond (bad_rate_pid s) (changed_rate_pid Refusal.Slew s) next
+unfoldable pub guarded : RatePid → Answer RatePid → Answer RatePid
+guarded s next = cond (bad_rate_pid s) (changed_rate_pid (Some Refusal.Slew) s) next
 
-unfoldable pub call_slew_rate_pid : RatePid → Float → Changed
-call_slew_rate_pid s limit = guarded s (cond (bad_limit limit) (changed_rate_pid Refusal.Slew s) (changed_rate_pid Refusal.None (slew_rate_pid s limit)))
+unfoldable pub call_slew_rate_pid : RatePid → Float → Answer RatePid
+call_slew_rate_pid s limit = guarded s (cond (bad_limit limit) (changed_rate_pid (Some Refusal.Slew) s) (changed_rate_pid None (slew_rate_pid s limit)))
 
-unfoldable pub call_set_ts_rate_pid : RatePid → Float → Changed
-call_set_ts_rate_pid s ts = guarded s (changed_rate_pid Refusal.None (set_ts_rate_pid s ts))
+unfoldable pub call_set_ts_rate_pid : RatePid → Float → Answer RatePid
+call_set_ts_rate_pid s ts = guarded s (changed_rate_pid None (set_ts_rate_pid s ts))
 
-unfoldable pub call_set_gains_rate_pid : RatePid → Float → Float → Float → Changed
-call_set_gains_rate_pid s kp ki kd = guarded s (changed_rate_pid Refusal.None (set_gains_rate_pid s kp ki kd))
+unfoldable pub call_set_gains_rate_pid : RatePid → Float → Float → Float → Answer RatePid
+call_set_gains_rate_pid s kp ki kd = guarded s (changed_rate_pid None (set_gains_rate_pid s kp ki kd))
 
-unfoldable pub call_enable_integral_rate_pid : RatePid → Bool → Changed
-call_enable_integral_rate_pid s on = guarded s (changed_rate_pid Refusal.None (enable_integral_rate_pid s on))
+unfoldable pub call_enable_integral_rate_pid : RatePid → Bool → Answer RatePid
+call_enable_integral_rate_pid s on = guarded s (changed_rate_pid None (enable_integral_rate_pid s on))
 
-unfoldable pub call_reset_integral_rate_pid : RatePid → Changed
-call_reset_integral_rate_pid s = guarded s (changed_rate_pid Refusal.None (reset_integral_rate_pid s))
+unfoldable pub call_reset_integral_rate_pid : RatePid → Answer RatePid
+call_reset_integral_rate_pid s = guarded s (changed_rate_pid None (reset_integral_rate_pid s))
 
-unfoldable pub call_enable_reset_integral_rate_pid : RatePid → Bool → Changed
-call_enable_reset_integral_rate_pid s on = guarded s (changed_rate_pid Refusal.None (reset_integral_rate_pid (enable_integral_rate_pid s on)))
+unfoldable pub call_enable_reset_integral_rate_pid : RatePid → Bool → Answer RatePid
+call_enable_reset_integral_rate_pid s on = guarded s (changed_rate_pid None (reset_integral_rate_pid (enable_integral_rate_pid s on)))
 
 unfoldable pub call_update_rate_pid : RatePid → Float → Float → Float → Updated
 call_update_rate_pid s r m p =
     let next = step_rate_pid s r m p in
-    cond (bad_rate_pid s) (updated_rate_pid Refusal.Slew F.zero s) (updated_rate_pid Refusal.None (total_of next.terms) next)
+    cond (bad_rate_pid s) (updated_rate_pid (Some Refusal.Slew) F.zero s) (updated_rate_pid None (total_of next.terms) next)
 
-unfoldable pub call_get_terms_rate_pid : RatePid → Terms
-call_get_terms_rate_pid s = cond (bad_rate_pid s) (terms_rate_pid Refusal.Slew zero_terms) (terms_rate_pid Refusal.None s.terms)
+unfoldable pub call_get_terms_rate_pid : RatePid → Answer PidTerms
+call_get_terms_rate_pid s = cond (bad_rate_pid s) (terms_rate_pid (Some Refusal.Slew) zero_terms) (terms_rate_pid None s.terms)

@@ -4,21 +4,19 @@
 // `unlimited`.
 #![tactic(auto)]
 
-ghost use Rattle.std.specs.Prelude.{◌≡◌, false, cond, ◌&&◌};
+ghost use Rattle.std.specs.Prelude.{◌≡◌, false, None, cond, ◌&&◌};
 ghost use Rattle.std.specs.Float.Ieee.{lt};
 ghost use Rattle.float.specs.F32 as F;
 ghost use Rattle.float.specs.Float.{abs_f, clamp_f};
-ghost use Rattle.refusal.specs.declared.Refusal.TheVariants as Refusal;
+ghost use Rattle.rate_pid.specs.Slew.{bad_slew, step_slew};
 ghost use Rattle.rate_pid.specs.RatePid.{zero_terms, zero_rate_pid, total_of, calm, integrated, bad_rate_pid, changed_rate_pid, guarded, slewed_of, with_slew, new_rate_pid, step_rate_pid, call_slew_rate_pid, call_set_ts_rate_pid, call_set_gains_rate_pid, call_enable_integral_rate_pid, call_reset_integral_rate_pid, call_enable_reset_integral_rate_pid, call_update_rate_pid, call_get_terms_rate_pid, unlimited_rate_pid, summed, advanced};
 
-mod slew;
-
 use filters::{Lowpass, NthOrderLowpass, SlewRate};
-use refusal::Refusal;
-pub use slew::Slew;
+use refusal::{Answer, Refusal};
+use step::Stepped;
 
 // The numbers that the last update added up.
-#[derive(Clone, Copy)]
+#[derive(Clone, Copy, Default)]
 pub struct PidTerms {
     pub p_out: f32,
     pub i_out: f32,
@@ -28,7 +26,7 @@ pub struct PidTerms {
 
 // The Rust's max_integral is always 1, and is no field here. A number that an update changes stands between two that it
 // does not: side by side, the compiler would keep them as one vector, and each would wait for the slowest of them.
-#[derive(Clone, Copy)]
+#[derive(Clone, Copy, Default)]
 pub struct RatePid {
     pub kp: f32,
     pub integral: f32,
@@ -38,44 +36,18 @@ pub struct RatePid {
     pub prev_ref: f32,
     pub dt: f32,
     pub terms: PidTerms,
+    // Kept: a switch beside the integral, and no Option of it. The integral stays while the switch is off.
     pub integral_en: bool,
     pub lowpass: Lowpass,
     pub d_lowpass: NthOrderLowpass,
-    pub d_slew: Slew,
+    pub d_slew: Option<SlewRate>,
 }
 
-// What `slew` and the setters give: refused, the state is as it was.
-#[derive(Clone, Copy)]
-pub struct Changed {
-    pub refusal: Refusal,
-    pub pid: RatePid,
-}
-
-// What an update answers: refused, y is +0.
-#[derive(Clone, Copy)]
-pub struct Answer {
-    pub refusal: Refusal,
-    pub y: f32,
-}
-
-// The answer apart from the state, since the update in place gives the answer alone.
+// What an update gives: refused, the value is +0 and the state as it was. The value is apart from the state, since the
+// update in place gives the value alone.
 #[derive(Clone, Copy)]
 pub struct Updated {
-    pub answer: Answer,
-    pub pid: RatePid,
-}
-
-// Refused, the four numbers are +0.
-#[derive(Clone, Copy)]
-pub struct Terms {
-    pub refusal: Refusal,
-    pub terms: PidTerms,
-}
-
-// The value of an update that cannot be refused, and the state after it.
-#[derive(Clone, Copy)]
-pub struct Advanced {
-    pub y: f32,
+    pub answer: Answer<f32>,
     pub pid: RatePid,
 }
 
@@ -87,13 +59,11 @@ struct Integrated {
 }
 
 // The size of a number is below 1. Two tests say it without the size.
+#[tactic(auto, using(crate::specs::RatePidLaws::abs_below_one))]
 fn small(x: f32) -> bool
     ensures { result ≡ lt (abs_f x) F.one }
 {
-    if -1.0 < x {
-        return x < 1.0;
-    }
-    false
+    -1.0 < x && x < 1.0
 }
 
 // One of two numbers. Both are worked out before it is known which: the compiler makes no jump of it.
@@ -101,12 +71,6 @@ fn pick(first: bool, a: f32, b: f32) -> f32
     ensures { result ≡ cond first a b }
 {
     if first { a } else { b }
-}
-
-fn both(a: bool, b: bool) -> bool
-    ensures { result ≡ (a && b) }
-{
-    if a { b } else { false }
 }
 
 fn at_least_minus_one(x: f32) -> f32
@@ -124,26 +88,38 @@ fn clamp_to_one(x: f32) -> f32
 }
 
 // The integral may move. NaN is never calm. All three are asked in any case, so that none becomes a jump.
+#[tactic(auto, unfolding(crate::specs::RatePid::calm))]
 fn calm(on: bool, filtered: f32, slewed: f32) -> bool
     ensures { result ≡ calm on filtered slewed }
 {
     let filtered_small = small(filtered);
     let slewed_small = small(slewed);
-    both(on, both(filtered_small, slewed_small))
+    on && filtered_small && slewed_small
+}
+
+// The reference as the limiter lets it through, and the limiter after it. The controller tests the limit before.
+#[tactic(auto, using(filters::specs::SlewRateLaws::update_slew_accepted), unfolding(crate::specs::Slew::step_slew, crate::specs::Slew::bad_slew))]
+fn slewed(slew: Option<SlewRate>, reference: f32) -> Stepped<Option<SlewRate>>
+    requires { bad_slew slew ≡ false }
+    ensures { result ≡ step_slew slew reference }
+{
+    match slew {
+        None => Stepped {
+            y: reference,
+            state: None,
+        },
+        Some(limiter) => {
+            let next = refusal::given(limiter.update(reference));
+            Stepped {
+                y: next.y,
+                state: Some(next.state),
+            }
+        }
+    }
 }
 
 impl PidTerms {
-    pub fn default() -> Self
-        ensures { result ≡ zero_terms }
-    {
-        PidTerms {
-            p_out: 0.0,
-            i_out: 0.0,
-            dr_out: 0.0,
-            dm_out: 0.0,
-        }
-    }
-
+    #[tactic(auto, unfolding(crate::specs::RatePid::total_of))]
     fn total(self) -> f32
         ensures { result ≡ total_of self }
     {
@@ -153,273 +129,238 @@ impl PidTerms {
 
 impl RatePid {
     // The one check of a state: its stored slew limit is bad.
+    #[tactic(auto, unfolding(crate::specs::RatePid::bad_rate_pid, crate::specs::Slew::bad_slew))]
     pub fn bad(self) -> bool
         ensures { result ≡ bad_rate_pid self }
     {
-        let d_slew = self.d_slew;
-        d_slew.bad()
-    }
-
-    fn with_slew(self, d_slew: Slew) -> Self
-        ensures { result ≡ with_slew self d_slew }
-    {
-        let terms = self.terms;
-        let lowpass = self.lowpass;
-        let d_lowpass = self.d_lowpass;
-        RatePid {
-            kp: self.kp,
-            ki: self.ki,
-            kd: self.kd,
-            integral: self.integral,
-            prev_meas: self.prev_meas,
-            prev_ref: self.prev_ref,
-            terms,
-            dt: self.dt,
-            integral_en: self.integral_en,
-            lowpass,
-            d_lowpass,
-            d_slew,
+        match self.d_slew {
+            None => false,
+            Some(limiter) => filters::bad_limit(limiter.rate_limit),
         }
     }
 
     // What the integral and the damping filter become if they move is worked out in any case, and kept only if they do.
+    #[tactic(auto, unfolding(crate::specs::RatePid::integrated, crate::specs::RatePid::grown_of, crate::specs::RatePid::damping_of, crate::specs::RatePid::damped_of, filters::specs::Lowpass::step_lowpass))]
     fn integrate(self, moves: bool, derivative: f32, error: f32) -> Integrated
         ensures { result ≡ integrated self moves derivative error }
     {
-        let old = self.lowpass;
-        let damped = old.update(float::abs(derivative));
+        let damped = self.lowpass.update(float::abs(derivative));
         let damping = 1.0 + damped.y;
         let sum = self.integral + self.ki * error * self.dt / damping;
         let grown = clamp_to_one(sum);
         let integral = pick(moves, grown, self.integral);
-        let mut lowpass = old;
-        lowpass.y = pick(moves, damped.y, old.y);
-        Integrated { integral, lowpass }
+        let y = pick(moves, damped.y, self.lowpass.y);
+        Integrated {
+            integral,
+            lowpass: Lowpass { y, ..self.lowpass },
+        }
     }
 
     // An update with the reference as the limiter lets it through, but for the limiter itself. P goes by the raw reference,
     // the derivative and the calm test by the slewed one.
-    fn follow(mut self, slewed: f32, reference: f32, measurement: f32, prediction: f32) -> Advanced
+    // Kept: the three numbers of an update are passed apart, as the Rust's call takes them.
+    #[tactic(auto, unfolding(crate::specs::RatePid::step_rate_pid, crate::specs::RatePid::terms_of, crate::specs::RatePid::integrated_of, crate::specs::RatePid::calm_of, crate::specs::RatePid::filtered_of, crate::specs::RatePid::ref_derivative_of, crate::specs::RatePid::meas_derivative_of, crate::specs::RatePid::d_gain_of, crate::specs::RatePid::with_slew, crate::specs::RatePid::summed))]
+    fn follow(
+        self,
+        slewed: f32,
+        reference: f32,
+        measurement: f32,
+        prediction: f32,
+    ) -> Stepped<RatePid>
         requires { slewed ≡ slewed_of self reference }
         ensures { result ≡ summed (with_slew (step_rate_pid self reference measurement prediction) self.d_slew) }
     {
-        let filter = self.d_lowpass;
-        let passed = filter.update(measurement);
+        let passed = self.d_lowpass.update(measurement);
         let measurement_lp = passed.y;
         let d_gain = self.kd / self.dt;
         let ref_derivative = d_gain * (slewed - self.prev_ref);
         let meas_derivative = d_gain * (self.prev_meas - measurement_lp);
         let moves = calm(self.integral_en, measurement_lp, slewed);
         let next = self.integrate(moves, meas_derivative, prediction - measurement);
-        let integral = next.integral;
-        let lowpass = next.lowpass;
-        let d_lowpass = passed.filter;
         let terms = PidTerms {
             p_out: self.kp * (reference - measurement),
-            i_out: integral,
+            i_out: next.integral,
             dr_out: ref_derivative,
             dm_out: meas_derivative,
         };
         let y = terms.total();
-        self.integral = integral;
-        self.prev_meas = measurement_lp;
-        self.prev_ref = slewed;
-        self.terms = terms;
-        self.lowpass = lowpass;
-        self.d_lowpass = d_lowpass;
-        Advanced { y, pid: self }
+        let state = RatePid {
+            integral: next.integral,
+            prev_meas: measurement_lp,
+            prev_ref: slewed,
+            terms,
+            lowpass: next.lowpass,
+            d_lowpass: passed.state,
+            ..self
+        };
+        Stepped { y, state }
     }
 
     // An update of a state that is not bad.
-    fn step(self, reference: f32, measurement: f32, prediction: f32) -> Advanced
+    #[tactic(auto, unfolding(crate::specs::RatePid::bad_rate_pid, crate::specs::RatePid::slewed_of, crate::specs::RatePid::summed, crate::specs::RatePid::step_rate_pid, crate::specs::RatePid::with_slew))]
+    fn step(self, reference: f32, measurement: f32, prediction: f32) -> Stepped<RatePid>
         requires { bad_rate_pid self ≡ false }
         ensures { result ≡ summed (step_rate_pid self reference measurement prediction) }
     {
-        let slew = self.d_slew;
-        let limited = slew.update(reference);
+        let limited = slewed(self.d_slew, reference);
         let next = self.follow(limited.y, reference, measurement, prediction);
-        let moved = next.pid;
-        let d_slew = limited.slew;
-        let pid = moved.with_slew(d_slew);
-        Advanced { y: next.y, pid }
+        let state = RatePid {
+            d_slew: limited.state,
+            ..next.state
+        };
+        Stepped { y: next.y, state }
     }
 
     // There is no limiter.
+    #[tactic(auto, unfolding(crate::specs::RatePid::unlimited_rate_pid, crate::specs::Slew::is_off))]
     pub fn unlimited(self) -> bool
         ensures { result ≡ unlimited_rate_pid self }
     {
-        let d_slew = self.d_slew;
-        d_slew.off()
+        self.d_slew.is_none()
     }
 
     // An update of the state with its limiter, if it has one, taken off: it cannot be refused, and there is no test in it that
     // the compiler must make a jump of.
-    pub fn advance(self, reference: f32, measurement: f32, prediction: f32) -> Advanced
+    #[tactic(auto, unfolding(crate::specs::RatePid::advanced, crate::specs::RatePid::summed, crate::specs::RatePid::with_slew, crate::specs::RatePid::slewed_of, crate::specs::Slew::step_slew, crate::specs::RatePid::step_rate_pid))]
+    pub fn advance(self, reference: f32, measurement: f32, prediction: f32) -> Stepped<RatePid>
         ensures { result ≡ advanced self reference measurement prediction }
     {
-        let off = Slew::Off;
-        let bare = self.with_slew(off);
+        let bare = RatePid {
+            d_slew: None,
+            ..self
+        };
         bare.follow(reference, reference, measurement, prediction)
     }
 
     // The all-zero state with its switches off. Nothing made by `new` is like it: there the integral is on.
+    // Kept: a public name beside `default`.
+    #[tactic(auto, unfolding(crate::specs::RatePid::zero_rate_pid, crate::specs::RatePid::zero_lowpass, crate::specs::RatePid::zero_terms))]
     pub fn zero() -> Self
         ensures { result ≡ zero_rate_pid }
     {
-        let terms = PidTerms::default();
-        let lowpass = Lowpass {
-            tau: 0.0,
-            dt: 0.0,
-            y: 0.0,
-            alpha0: 0.0,
-            alpha1: 0.0,
-        };
-        let d_lowpass = NthOrderLowpass {
-            first: lowpass,
-            second: lowpass,
-        };
-        let d_slew = Slew::Off;
-        RatePid {
-            kp: 0.0,
-            ki: 0.0,
-            kd: 0.0,
-            integral: 0.0,
-            prev_meas: 0.0,
-            prev_ref: 0.0,
-            terms,
-            dt: 0.0,
-            integral_en: false,
-            lowpass,
-            d_lowpass,
-            d_slew,
-        }
+        RatePid::default()
     }
 
     // Nothing given here is refused. The integral is on.
+    #[tactic(auto, unfolding(crate::specs::RatePid::new_rate_pid, crate::specs::RatePid::zero_rate_pid))]
     pub fn new(kp: f32, ki: f32, kd: f32, tau: f32, dt: f32) -> Self
         ensures { result ≡ new_rate_pid kp ki kd tau dt }
     {
-        let terms = PidTerms::default();
-        let lowpass = Lowpass::new(tau * 10.0, dt);
-        let d_lowpass = NthOrderLowpass::new(tau, dt);
-        let d_slew = Slew::Off;
         RatePid {
             kp,
             ki,
             kd: kd * kp,
-            integral: 0.0,
-            prev_meas: 0.0,
-            prev_ref: 0.0,
-            terms,
             dt,
             integral_en: true,
-            lowpass,
-            d_lowpass,
-            d_slew,
+            lowpass: Lowpass::new(tau * 10.0, dt),
+            d_lowpass: NthOrderLowpass::new(tau, dt),
+            ..RatePid::zero()
         }
     }
 
     // What `slew` and the setters give: the state that they make or, where the stored limit is bad, the state as it was.
-    fn keep(self, next: RatePid) -> Changed
-        ensures { result ≡ guarded self (changed_rate_pid Refusal.None next) }
+    #[tactic(auto, unfolding(crate::specs::RatePid::guarded))]
+    fn keep(self, next: RatePid) -> Answer<RatePid>
+        ensures { result ≡ guarded self (changed_rate_pid None next) }
     {
         if self.bad() {
-            let refusal = Refusal::Slew;
-            return Changed { refusal, pid: self };
+            return Refusal::Slew.with(self);
         }
-        let refusal = Refusal::None;
-        Changed { refusal, pid: next }
+        Ok(next)
     }
 
     // A bad limit given is refused as a bad limit stored is: it does not matter which of the two is tested first.
-    pub fn slew(self, limit: f32) -> Changed
+    #[tactic(auto, unfolding(crate::specs::RatePid::call_slew_rate_pid, crate::specs::RatePid::slew_rate_pid, crate::specs::RatePid::with_slew, crate::specs::RatePid::guarded, filters::specs::SlewRate::call_new_slew_rate))]
+    pub fn slew(self, limit: f32) -> Answer<RatePid>
         ensures { result ≡ call_slew_rate_pid self limit }
     {
-        if filters::bad_limit(limit) {
-            let refusal = Refusal::Slew;
-            return Changed { refusal, pid: self };
+        match SlewRate::new(limit, self.dt) {
+            Ok(limiter) => self.keep(RatePid {
+                d_slew: Some(limiter),
+                ..self
+            }),
+            Err(refused) => refused.refusal.with(self),
         }
-        let made = SlewRate::new(limit, self.dt);
-        let filter = made.filter;
-        let d_slew = Slew::On(filter);
-        self.keep(self.with_slew(d_slew))
     }
 
     // The damping filter keeps its sample time.
-    pub fn set_ts(self, ts: f32) -> Changed
+    #[tactic(auto, unfolding(crate::specs::RatePid::call_set_ts_rate_pid, crate::specs::RatePid::set_ts_rate_pid, crate::specs::Slew::set_dt_slew, filters::specs::SlewRate::set_dt_slew_rate))]
+    pub fn set_ts(self, ts: f32) -> Answer<RatePid>
         ensures { result ≡ call_set_ts_rate_pid self ts }
     {
-        let filter = self.d_lowpass;
-        let d_lowpass = filter.set_dt(ts);
-        let slew = self.d_slew;
-        let d_slew = slew.set_dt(ts);
-        let mut next = self;
-        next.dt = ts;
-        next.d_lowpass = d_lowpass;
-        self.keep(next.with_slew(d_slew))
+        self.keep(RatePid {
+            dt: ts,
+            d_lowpass: self.d_lowpass.set_dt(ts),
+            d_slew: self.d_slew.map(|limiter| SlewRate { dt: ts, ..limiter }),
+            ..self
+        })
     }
 
-    pub fn set_gains(self, kp: f32, ki: f32, kd: f32) -> Changed
+    #[tactic(auto, unfolding(crate::specs::RatePid::call_set_gains_rate_pid, crate::specs::RatePid::set_gains_rate_pid))]
+    pub fn set_gains(self, kp: f32, ki: f32, kd: f32) -> Answer<RatePid>
         ensures { result ≡ call_set_gains_rate_pid self kp ki kd }
     {
-        let mut next = self;
-        next.kp = kp;
-        next.ki = ki;
-        next.kd = kd * kp;
-        self.keep(next)
+        let kd = kd * kp;
+        self.keep(RatePid { kp, ki, kd, ..self })
     }
 
-    pub fn enable_integral(self, enable: bool) -> Changed
+    #[tactic(auto, unfolding(crate::specs::RatePid::call_enable_integral_rate_pid, crate::specs::RatePid::enable_integral_rate_pid))]
+    pub fn enable_integral(self, enable: bool) -> Answer<RatePid>
         ensures { result ≡ call_enable_integral_rate_pid self enable }
     {
-        let mut next = self;
-        next.integral_en = enable;
-        self.keep(next)
+        self.keep(RatePid {
+            integral_en: enable,
+            ..self
+        })
     }
 
-    pub fn reset_integral(self) -> Changed
+    #[tactic(auto, unfolding(crate::specs::RatePid::call_reset_integral_rate_pid, crate::specs::RatePid::reset_integral_rate_pid))]
+    pub fn reset_integral(self) -> Answer<RatePid>
         ensures { result ≡ call_reset_integral_rate_pid self }
     {
-        let mut next = self;
-        next.integral = 0.0;
-        self.keep(next)
+        self.keep(RatePid {
+            integral: 0.0,
+            ..self
+        })
     }
 
-    pub fn enable_reset_integral(self, enable: bool) -> Changed
+    #[tactic(auto, unfolding(crate::specs::RatePid::call_enable_reset_integral_rate_pid, crate::specs::RatePid::enable_integral_rate_pid, crate::specs::RatePid::reset_integral_rate_pid))]
+    pub fn enable_reset_integral(self, enable: bool) -> Answer<RatePid>
         ensures { result ≡ call_enable_reset_integral_rate_pid self enable }
     {
-        let mut next = self;
-        next.integral_en = enable;
-        next.integral = 0.0;
-        self.keep(next)
+        self.keep(RatePid {
+            integral_en: enable,
+            integral: 0.0,
+            ..self
+        })
     }
 
+    #[tactic(auto, unfolding(crate::specs::RatePid::call_update_rate_pid, crate::specs::RatePid::summed))]
     pub fn update(self, reference: f32, measurement: f32, prediction: f32) -> Updated
         ensures { result ≡ call_update_rate_pid self reference measurement prediction }
     {
         if self.bad() {
-            let refusal = Refusal::Slew;
-            let answer = Answer { refusal, y: 0.0 };
-            return Updated { answer, pid: self };
+            return Updated {
+                answer: Refusal::Slew.with(0.0),
+                pid: self,
+            };
         }
         let next = self.step(reference, measurement, prediction);
-        let pid = next.pid;
-        let refusal = Refusal::None;
-        let answer = Answer { refusal, y: next.y };
-        Updated { answer, pid }
+        Updated {
+            answer: Ok(next.y),
+            pid: next.state,
+        }
     }
 
-    pub fn get_terms(self) -> Terms
+    // Refused, the four numbers are +0.
+    #[tactic(auto, unfolding(crate::specs::RatePid::call_get_terms_rate_pid, crate::specs::RatePid::zero_terms))]
+    pub fn get_terms(self) -> Answer<PidTerms>
         ensures { result ≡ call_get_terms_rate_pid self }
     {
         if self.bad() {
-            let refusal = Refusal::Slew;
-            let terms = PidTerms::default();
-            return Terms { refusal, terms };
+            return Refusal::Slew.with(PidTerms::default());
         }
-        let refusal = Refusal::None;
-        let terms = self.terms;
-        Terms { refusal, terms }
+        Ok(self.terms)
     }
 }
 
@@ -429,11 +370,10 @@ pub fn update_in_place(
     reference: f32,
     measurement: f32,
     prediction: f32,
-) -> Answer
+) -> Answer<f32>
     ensures { (result ≡ (call_update_rate_pid pid.old reference measurement prediction).answer) × (pid.new ≡ (call_update_rate_pid pid.old reference measurement prediction).pid) }
 {
-    let old = *pid;
-    let next = old.update(reference, measurement, prediction);
+    let next = pid.update(reference, measurement, prediction);
     *pid = next.pid;
     next.answer
 }

@@ -16,19 +16,23 @@ pub struct ExpoRates {
     pub center_sens: f32,
 }
 
-impl ExpoRates {
-    pub fn default() -> Self
-        ensures { result ≡ expo_default }
-    {
-        let rates_type = RatesType::Actual;
+// Kept: by hand, since its numbers are not all zero.
+#[tactic(auto, unfolding(crate::specs::ExpoRates::expo_default))]
+impl Default for ExpoRates {
+    ghost is_default = { λ rates. rates ≡ expo_default };
+
+    fn default() -> Self {
         ExpoRates {
-            rates_type,
+            rates_type: RatesType::Actual,
             expo: 0.2,
             max_rates: 31.41,
             center_sens: 0.4,
         }
     }
+}
 
+#[tactic(auto, unfolding(crate::specs::ExpoRates::new_expo, crate::specs::ExpoRates::apply_expo))]
+impl ExpoRates {
     pub fn new(rates_type: RatesType, expo: f32, max_rates: f32, center_sens: f32) -> Self
         ensures { result ≡ new_expo rates_type expo max_rates center_sens }
     {
@@ -43,8 +47,7 @@ impl ExpoRates {
     pub fn apply(self, rc_command: f32) -> f32
         ensures { result ≡ apply_expo self rc_command }
     {
-        let kind = self.rates_type;
-        match kind {
+        match self.rates_type {
             RatesType::Actual => actual_rates(
                 self.expo,
                 self.max_rates,
@@ -56,6 +59,7 @@ impl ExpoRates {
     }
 }
 
+#[tactic(auto, unfolding(crate::specs::ExpoRates::actual_rates))]
 fn actual_rates(expo: f32, max_rates: f32, center_sens: f32, rc_command: f32) -> f32
     ensures { result ≡ actual_rates expo max_rates center_sens rc_command }
 {
@@ -66,6 +70,7 @@ fn actual_rates(expo: f32, max_rates: f32, center_sens: f32, rc_command: f32) ->
     rc_command * center_sensitivity + stick_movement * expof
 }
 
+#[tactic(auto, unfolding(crate::specs::ExpoRates::kiss_rates))]
 fn kiss_rates(expo: f32, max_rates: f32, rc_command: f32) -> f32
     ensures { result ≡ kiss_rates expo max_rates rc_command }
 {

@@ -22,29 +22,38 @@ pub struct Actual {
 }
 
 // The numbers of a `Linear` curve, fact · x + offs.
+// Kept: the Rust has this type and `rates::linear::Linear` (the comment there says more).
 #[derive(Clone, Copy)]
 pub struct Linear {
     pub fact: f32,
     pub offs: f32,
 }
 
-impl Rates {
-    pub fn default() -> Self
-        ensures { result ≡ rates_default }
-    {
+// Kept: by hand, so that its contract is the definition.
+#[tactic(auto, unfolding(crate::specs::Rates::rates_default))]
+impl Default for Rates {
+    ghost is_default = { λ curve. curve ≡ rates_default };
+
+    fn default() -> Self {
         Rates::Identity
     }
+}
 
-    pub fn from(actual: Actual) -> Self
-        ensures { result ≡ rates_of actual }
-    {
+#[tactic(auto, unfolding(crate::specs::Rates::rates_of))]
+impl From<Actual> for Rates {
+    ghost from_gives = { λ actual curve. curve ≡ rates_of actual };
+
+    fn from(actual: Actual) -> Self {
         Rates::Actual {
             rate: actual.rate,
             expo: actual.expo,
             cent: actual.cent,
         }
     }
+}
 
+#[tactic(auto, unfolding(crate::specs::Rates::apply_rates))]
+impl Rates {
     pub fn apply(self, input: f32) -> f32
         ensures { result ≡ apply_rates self input }
     {
@@ -56,17 +65,22 @@ impl Rates {
     }
 }
 
-impl Actual {
-    pub fn default() -> Self
-        ensures { result ≡ actual_default }
-    {
+// Kept: by hand, since its numbers are not all zero.
+#[tactic(auto, unfolding(crate::specs::Rates::actual_default))]
+impl Default for Actual {
+    ghost is_default = { λ curve. curve ≡ actual_default };
+
+    fn default() -> Self {
         Actual {
             rate: 20.0,
             expo: 0.5,
             cent: 5.0,
         }
     }
+}
 
+#[tactic(auto, unfolding(crate::specs::Rates::apply_actual))]
+impl Actual {
     pub fn apply(self, val: f32) -> f32
         ensures { result ≡ apply_actual self val }
     {
@@ -76,16 +90,21 @@ impl Actual {
     }
 }
 
-impl Linear {
-    pub fn default() -> Self
-        ensures { result ≡ linear_curve_default }
-    {
+// Kept: by hand, since its numbers are not all zero.
+#[tactic(auto, unfolding(crate::specs::Rates::linear_curve_default))]
+impl Default for Linear {
+    ghost is_default = { λ line. line ≡ linear_curve_default };
+
+    fn default() -> Self {
         Linear {
             fact: 1.0,
             offs: 0.0,
         }
     }
+}
 
+#[tactic(auto, unfolding(crate::specs::Rates::new_linear_curve, crate::specs::Rates::apply_linear_curve))]
+impl Linear {
     // The line through (in_min, out_min) and (in_max, out_max).
     pub fn new(in_min: f32, in_max: f32, out_min: f32, out_max: f32) -> Self
         ensures { result ≡ new_linear_curve in_min in_max out_min out_max }

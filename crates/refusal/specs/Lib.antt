@@ -1,2 +1,4 @@
 pub mod Refusal
 pub mod RefusalLaws
+pub mod Answers
+pub mod AnswerLaws

@@ -1,10 +1,9 @@
--- The number that document 01's table, or a change request, gives each refusal; 0 is no refusal. And which of two comes first.
-use Rattle.std.specs.Prelude.{ℕ, Bool, cond, eqb}
+-- The number that document 01's table, or a change request, gives each refusal.
+use Rattle.std.specs.Prelude.{ℕ}
 use Rattle.refusal.specs.declared.Refusal.{Refusal}
-use Rattle.refusal.specs.declared.Refusal.TheVariants.{None, Range, Tau, Slew, Alpha, Points, Steps, Motor, Lane, Closed, Open, Magic, Header, Kind, Shape, Cut, Rest, RowSum, Window, ShortRun}
+use Rattle.refusal.specs.declared.Refusal.TheVariants.{Range, Tau, Slew, Alpha, Points, Steps, Motor, Lane, Closed, Open, Magic, Header, Kind, Shape, Cut, Rest, RowSum, Window, ShortRun}
 
 abbrev pub number_of : Refusal → ℕ
-number_of None = 0
 number_of Range = 1
 number_of Tau = 2
 number_of Slew = 3
@@ -24,11 +23,3 @@ number_of Rest = 16
 number_of RowSum = 17
 number_of Window = 18
 number_of ShortRun = 25
-
--- nothing is refused
-unfoldable pub passes : Refusal → Bool
-passes why = eqb (number_of why) 0
-
--- the first of two refusals
-abbrev pub first_refusal : Refusal → Refusal → Refusal
-first_refusal a b = cond (passes a) b a

@@ -2,303 +2,184 @@
 // the length. A refusal's line goes to standard error too; a read or a write that fails ends the program, which then says so there.
 #![tactic(auto)]
 
-ghost use Rattle.std.specs.Prelude.{◌-◌, ◌≤◌, length};
+ghost use Rattle.std.specs.Prelude.{◌≤◌, length};
 
 use refusal::Refusal;
+use std::fmt::{self, Display, Formatter};
 use std::io::{Read, Stderr, Stdin, Stdout};
-use trace::{Begun, Course};
+use trace::Course;
 
-// The three standard streams.
-#[derive(Clone, Copy)]
-struct Standard {
-    input: Stdin,
+// What the program ends by, where it is not the last line.
+#[derive(Clone, Copy, Debug, PartialEq, Eq)]
+enum Failed {
+    Read,
+    Write,
+}
+
+impl Display for Failed {
+    fn fmt<W: fmt::Write>(&self, f: &mut Formatter<W>) -> fmt::Result {
+        f.write_str(match self {
+            Failed::Read => "read failed",
+            Failed::Write => "write failed",
+        })
+    }
+}
+
+// The bytes that were read and are not yet taken, in a buffer that is lent.
+#[derive(Drop)]
+struct Window<'a> {
+    stdin: Stdin,
+    buffer: &'a mut [u8],
+    from: usize,
+    to: usize,
+    ghost within: { (from ≤ to) × (to ≤ length buffer.now) },
+}
+
+impl Window<'_> {
+    fn bytes(&self) -> &[u8] {
+        &self.buffer[self.from..self.to]
+    }
+
+    fn is_empty(&self) -> bool {
+        self.from == self.to
+    }
+
+    // Takes so many bytes, or all.
+    fn take(&mut self, n: usize) {
+        self.from += n.min(self.to - self.from);
+    }
+
+    // One read behind the bytes that are there, which go to the front. Answers whether it gave any: it gives none at the end of the input.
+    fn fill(&mut self) -> Result<bool, Failed> {
+        self.buffer.copy_within(self.from..self.to, 0);
+        self.to -= self.from;
+        self.from = 0;
+        let n = self
+            .stdin
+            .read(&mut self.buffer[self.to..])
+            .map_err(|_| Failed::Read)?;
+        self.to += n;
+        Ok(n != 0)
+    }
+}
+
+// A replay, and the room that it has for cells, values and text.
+#[derive(Drop)]
+struct Replay<'w, 'a> {
+    input: Window<'w>,
+    cells: &'a mut [f32],
+    values: &'a mut [f32],
+    text: &'a mut [u8],
     output: Stdout,
     error: Stderr,
 }
 
-// What one read gave.
-#[derive(Clone, Copy)]
-struct More {
-    n: usize,
-    ok: bool,
-}
+impl Replay<'_, '_> {
+    // Writes the first bytes of the text, and answers them.
+    fn write(&self, n: usize) -> Result<&[u8], Failed> {
+        let lines = self.text.get(..n).ok_or(Failed::Write)?;
+        self.output.write_all(lines).map_err(|_| Failed::Write)?;
+        Ok(lines)
+    }
 
-// A trace under way, where its bytes that are not yet taken begin and end in the buffer, and whether it goes on.
-#[derive(Clone, Copy)]
-struct Stream {
-    course: Course,
-    from: usize,
-    to: usize,
-    going: bool,
-}
+    // Writes the last line, if there is one. It is said on standard error too, where it is the reason.
+    fn write_last(&self, n: usize) -> Result<(), Failed> {
+        let line = self.write(n)?;
+        let _ = self.error.write_all(line);
+        Ok(())
+    }
 
-fn say(standard: Standard, words: &[u8]) {
-    let _ = standard.error.write_all(words);
-}
+    // A refused start or row: its refusal's line.
+    fn refuse(&mut self, why: Refusal) -> Result<(), Failed> {
+        let n = trace::refused_line(why, self.text);
+        self.write_last(n)
+    }
 
-// One read into the buffer from a place on: 0 bytes at the end of the input, or where there is no room.
-fn read_more(stdin: Stdin, input: &mut [u8], to: usize) -> More
-    ensures { result.n ≤ length input.old - to }
-{
-    if input.len() <= to {
-        return More { n: 0, ok: true };
+    // The end of the input, or bytes too many: the last line is what these say.
+    fn close(&mut self, course: Course) -> Result<(), Failed> {
+        let n = trace::end(course, self.input.bytes(), self.text);
+        self.write_last(n)
     }
-    let mut from = stdin;
-    match from.read(&mut input[to..]) {
-        Ok(n) => More { n, ok: true },
-        Err(_) => More { n: 0, ok: false },
-    }
-}
 
-// Reads until the start of the file is there or the input ends.
-fn gather(stdin: Stdin, input: &mut [u8]) -> More {
-    let enough = trace::start_bytes();
-    let mut to = 0;
-    while to < enough {
-        let m = read_more(stdin, input, to);
-        if !m.ok {
-            return More { n: 0, ok: false };
-        }
-        if m.n == 0 {
-            return More { n: to, ok: true };
-        }
-        to += m.n;
-    }
-    More { n: to, ok: true }
-}
-
-// Writes the first bytes of out.
-fn write<P: Print>(stream: &P, out: &[u8], n: usize) -> bool {
-    if out.len() < n {
-        return false;
-    }
-    stream.write_all(&out[..n]).is_ok()
-}
-
-// Writes the last line, if there is one. It is said on standard error too, where it is the reason.
-fn last(standard: Standard, out: &[u8], n: usize) {
-    if write(&standard.output, out, n) {
-        write(&standard.error, out, n);
-        return;
-    }
-    say(standard, b"write failed\n");
-}
-
-fn stopped(course: Course) -> Stream {
-    Stream {
-        course,
-        from: 0,
-        to: 0,
-        going: false,
-    }
-}
-
-// What is left over is moved to the start of the buffer. Answers how many bytes that is.
-fn to_front(input: &mut [u8], from: usize, to: usize) -> usize
-    ensures { result ≤ length input.old }
-{
-    if to < from {
-        return 0;
-    }
-    if input.len() < to {
-        return 0;
-    }
-    let n = to - from;
-    let mut i = 0;
-    while i < n {
-        input[i] = input[from + i];
-        i += 1;
-    }
-    n
-}
-
-// The end of the input, or bytes too many: the last line is what these say.
-fn close(standard: Standard, course: Course, input: &[u8], to: usize, out: &mut [u8]) -> Stream {
-    if input.len() < to {
-        return stopped(course);
-    }
-    let n = trace::end(course, &input[..to], out);
-    last(standard, out, n);
-    stopped(course)
-}
-
-// No whole row is left in the buffer: more is read, unless bytes too many are there already.
-fn refill(
-    standard: Standard,
-    course: Course,
-    kept: usize,
-    input: &mut [u8],
-    out: &mut [u8],
-) -> Stream
-    requires { kept ≤ length input.old }
-{
-    if course.left == 0 {
-        if 0 < kept {
-            return close(standard, course, input, kept, out);
-        }
-    }
-    let m = read_more(standard.input, input, kept);
-    if !m.ok {
-        say(standard, b"read failed\n");
-        return stopped(course);
-    }
-    if m.n == 0 {
-        return close(standard, course, input, kept, out);
-    }
-    Stream {
-        course,
-        from: 0,
-        to: kept + m.n,
-        going: true,
-    }
-}
-
-// A refused row: the lines before it, and then its refusal's.
-fn refused(
-    standard: Standard,
-    course: Course,
-    why: Refusal,
-    written: usize,
-    out: &mut [u8],
-) -> Stream {
-    if write(&standard.output, out, written) {
-        let n = trace::refused_line(why, out);
-        last(standard, out, n);
-        return stopped(course);
-    }
-    say(standard, b"write failed\n");
-    stopped(course)
-}
-
-// As many rows as can be taken, or, where there are none, the next read.
-fn turn(
-    standard: Standard,
-    s: Stream,
-    input: &mut [u8],
-    cells: &mut [f32],
-    values: &mut [f32],
-    out: &mut [u8],
-) -> Stream {
-    let from = s.from;
-    let to = s.to;
-    if to < from {
-        return stopped(s.course);
-    }
-    if input.len() < to {
-        return stopped(s.course);
-    }
-    let went = trace::rows(s.course, &input[from..to], cells, values, out);
-    let course = went.course;
-    let why = went.refusal;
-    if !why.passes() {
-        return refused(standard, course, why, went.written, out);
-    }
-    if went.rows == 0 {
-        let kept = to_front(input, from, to);
-        return refill(standard, course, kept, input, out);
-    }
-    if write(&standard.output, out, went.written) {
-        return Stream {
+    // As many rows as can be taken, or, where no whole row is left, the next read, unless bytes too many are there already. Answers the trace
+    // after them, and none where it has ended.
+    fn turn(&mut self, course: Course) -> Result<Option<Course>, Failed> {
+        let went = trace::rows(
             course,
-            from: moved(from, went.taken, to),
-            to,
-            going: true,
-        };
+            self.input.bytes(),
+            self.cells,
+            self.values,
+            self.text,
+        );
+        if let Some(why) = went.refusal {
+            self.write(went.written)?;
+            self.refuse(why)?;
+            return Ok(None);
+        }
+        if went.rows != 0 {
+            self.write(went.written)?;
+            self.input.take(went.taken);
+            return Ok(Some(went.course));
+        }
+        let over = went.course.left == 0 && !self.input.is_empty();
+        if over || !self.input.fill()? {
+            self.close(went.course)?;
+            return Ok(None);
+        }
+        Ok(Some(went.course))
     }
-    say(standard, b"write failed\n");
-    stopped(course)
-}
 
-// The place so many bytes on, never past the end.
-fn moved(from: usize, n: usize, to: usize) -> usize {
-    if to < from {
-        return to;
+    // The rows. A proved loop has to end, and nothing says that the input does: so the turns are counted, up to a number that no run uses up.
+    fn go(&mut self, mut course: Course) -> Result<(), Failed> {
+        for _ in 0..u64::MAX {
+            match self.turn(course)? {
+                Some(next) => course = next,
+                None => break,
+            }
+        }
+        Ok(())
     }
-    if to - from < n {
-        return to;
-    }
-    from + n
-}
 
-// A row has no more bytes than this: eight lanes, three cells each, of four bytes.
-const ROW: u64 = 96;
-
-// A loop has to end whatever comes in: each turn takes a row or a byte of the trace, and of both the header says how many there may be.
-// Two turns more see a byte too many, or the end.
-fn turns(left: usize) -> u64 {
-    (left % 0x1_0000_0000) as u64 * (ROW + 1) + 2
-}
-
-fn go(
-    standard: Standard,
-    begun: Begun,
-    to: usize,
-    input: &mut [u8],
-    cells: &mut [f32],
-    values: &mut [f32],
-    out: &mut [u8],
-) {
-    let course = begun.course;
-    let mut s = Stream {
-        course,
-        from: begun.at,
-        to,
-        going: true,
-    };
-    let mut left = turns(course.left);
-    while 0 < left && s.going {
-        s = turn(standard, s, input, cells, values, out);
-        left -= 1;
+    // The start of the file decides whether there are rows at all. It is there once so many bytes are, or the input ends, and each read gives
+    // a byte at least.
+    fn run(&mut self) -> Result<(), Failed> {
+        let enough = trace::start_bytes();
+        for _ in 0..enough {
+            if enough <= self.input.bytes().len() || !self.input.fill()? {
+                break;
+            }
+        }
+        match trace::start(self.input.bytes()) {
+            Ok(begun) => {
+                self.input.take(begun.at);
+                self.go(begun.course)
+            }
+            Err(refused) => self.refuse(refused.refusal),
+        }
     }
-}
-
-// The start of the file decides whether there are rows at all.
-fn begin(
-    standard: Standard,
-    to: usize,
-    input: &mut [u8],
-    cells: &mut [f32],
-    values: &mut [f32],
-    out: &mut [u8],
-) {
-    if input.len() < to {
-        return;
-    }
-    let begun = trace::start(&input[..to]);
-    let why = begun.refusal;
-    if !why.passes() {
-        let n = trace::refused_line(why, out);
-        last(standard, out, n);
-        return;
-    }
-    go(standard, begun, to, input, cells, values, out);
-}
-
-fn run(
-    standard: Standard,
-    input: &mut [u8],
-    cells: &mut [f32],
-    values: &mut [f32],
-    out: &mut [u8],
-) {
-    let m = gather(standard.input, input);
-    if m.ok {
-        begin(standard, m.n, input, cells, values, out);
-        return;
-    }
-    say(standard, b"read failed\n");
 }
 
 fn main(rt: HostRuntime) {
-    let standard = Standard {
-        input: rt.stdin(),
+    let mut buffer = [0u8; 65536];
+    // 7280 values, 910 rows of eight lanes: `text` holds their words, 9 bytes each, with 16 bytes over. Three cells a value.
+    let mut cells = [0.0f32; 21840];
+    let mut values = [0.0f32; 7280];
+    let mut text = [0u8; 65536];
+    let input = Window {
+        stdin: rt.stdin(),
+        buffer: &mut buffer,
+        from: 0,
+        to: 0,
+    };
+    let mut replay = Replay {
+        input,
+        cells: &mut cells,
+        values: &mut values,
+        text: &mut text,
         output: rt.stdout(),
         error: rt.stderr(),
     };
-    let mut input = [0u8; 65536];
-    // 7280 values, 910 rows of eight lanes: `out` holds their words, 9 bytes each, with 16 bytes over. Three cells a value.
-    let mut cells = [0.0f32; 21840];
-    let mut values = [0.0f32; 7280];
-    let mut out = [0u8; 65536];
-    run(standard, &mut input, &mut cells, &mut values, &mut out);
+    if let Err(failed) = replay.run() {
+        let _ = eprintln!(rt; "{failed}");
+    }
 }

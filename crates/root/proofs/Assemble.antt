@@ -1,14 +1,17 @@
 -- A pattern put together from its parts, and when it is the nearest. Assumes nothing.
 use mathlib.Core.Path.{◌≡◌, sym, ap, ◌∙◌, subst}
 use mathlib.Core.Logic.{inl, inr}
-use Prim.Native.Nat.{ℕ, zero, suc, ◌+◌, ◌-◌, ◌*◌, ◌/◌, ◌%◌, ◌^◌, ◌≤◌, ◌<◌}
+use Prim.Native.Nat.{ℕ, suc, ◌+◌, ◌-◌, ◌*◌, ◌/◌, ◌%◌, ◌^◌, ◌≤◌, ◌<◌}
 use native.Mathlib.Nat.{le_trans, le_of_eq, eq-or-lt_of_le, mul-le-mul, mul-le-mul_right, mul-lt-mul_of_pos_right, mul_comm, mul_assoc, mul-pos, mul-mul-mul_comm, pow-suc, add_comm}
 use native.Mathlib.Omega.{arith}
 use native.Mathlib.Decide.{dec_le, ℕ_discrete}
 use lib.Pow.{pow_pos, pow-add, field, mod-mod-pow}
+use lib.Count.{count_leading_zeros}
+use Rattle.std.proofs.Math.Pow.{pow_mono}
+use Rattle.std.proofs.lemmas.Nat.{leading_top}
 use Rattle.root.specs.Root.{of_parts, scaled, twice_middle, fourfold, root_bits}
 use Rattle.root.specs.RootLaws.{Nearest, root_nearest, nearest_unique}
-use Rattle.root.specs.Patterns.{scaled_mono, parts_at, twice_middle_is, scaled_is, scaled_at, odd_square, next-twice_middle, own_twice_middle, fourfold_is}
+use Rattle.root.specs.Patterns.{scaled_mono, parts_at, twice_middle_is, scaled_is, scaled_at, odd_square, next-twice_middle, own_twice_middle, fourfold_is, scaled_small}
 use Rattle.root.specs.NearLaws.{one_more}
 use Rattle.root.specs.Post.{IsParts, PartsIn, IsRounded}
 
@@ -72,15 +75,28 @@ split-normal b h l =
       value = rw scaled_is (subst (λ (z : ℕ). (b % 2 ^ 23 + 2 ^ 23) * 2 ^ (z + 125) ≡ of_parts z (b % 2 ^ 23) * 2 ^ 126) (sym e) (value_at (b / 2 ^ 23 - 1) (b % 2 ^ 23)));
     }
 
-pub some_left : (m e b : ℕ) → 0 < b → m < 2 ^ 23 → m * 2 ^ e ≡ b * 2 ^ 126 → 1 ≤ e
-some_left m zero b B M v = omega arith
-some_left m (suc e) b B M v = omega arith
+-- a number whose leading digit is at place j, moved up until that is at place 23
+moved : (b j p : ℕ) → j + p ≡ 23 → b < 2 ^ 23 → 2 ^ j ≤ b → b < 2 ^ suc j → IsParts b (b * 2 ^ p % 2 ^ 64) (126 - p)
+moved b j p e B L M =
+    let f : suc j + p ≡ 24 = omega arith in
+    let g : p + (126 - p) ≡ 126 = omega arith in
+    let least : 2 ^ 23 ≤ b * 2 ^ p = subst (λ (z : ℕ). 2 ^ z ≤ b * 2 ^ p) e (rw pow-add (mul-le-mul_right (2 ^ p) L)) in
+    let most : b * 2 ^ p < 2 ^ 24 = subst (λ (z : ℕ). b * 2 ^ p < 2 ^ z) f (rw (pow-add 2 (suc j) p) (mul-lt-mul_of_pos_right M (pow_pos p))) in
+    let whole : b * 2 ^ p % 2 ^ 64 ≡ b * 2 ^ p = omega arith in
+    rw whole (record {
+      least = least;
+      most = most;
+      exponent = omega arith;
+      value = rw (scaled_small b B) (mul_assoc b (2 ^ p) (2 ^ (126 - p)) ∙ ap (λ (z : ℕ). b * z) (sym (pow-add 2 p (126 - p)) ∙ ap (λ (z : ℕ). 2 ^ z) g));
+    })
 
-pub one_step : (m e w : ℕ) → 1 ≤ e → m * 2 ^ e ≡ w → m * 2 * 2 ^ (e - 1) ≡ w
-one_step m zero w h v = omega arith
-one_step m (suc e) w h v =
-    let f : suc e - 1 ≡ e = omega arith in
-    rw f (mul_assoc m 2 (2 ^ e) ∙ ap (λ (z : ℕ). m * z) (mul_comm 2 (2 ^ e) ∙ sym (pow-suc 2 e)) ∙ v)
+counted : (b c j : ℕ) → b < 2 ^ 23 → c + suc j ≡ 64 → 2 ^ j ≤ b → b < 2 ^ suc j → (40 ≤ c) × IsParts b (b * 2 ^ (c - 40) % 2 ^ 64) (126 - (c - 40))
+counted b c j B e L M =
+    let top : j < 23 = elim (dec_le 23 j) [ no f ↦ omega arith | yes h ↦ let l : 2 ^ 23 ≤ 2 ^ j = pow_mono {i = 23} {j = j} h in absurd (omega arith) ] in
+    (omega arith, moved b j (c - 40) (omega arith) B L M)
+
+pub split_small : (b : ℕ) → 0 < b → b < 2 ^ 23 → (40 ≤ count_leading_zeros 64 b) × IsParts b (b * 2 ^ (count_leading_zeros 64 b - 40) % 2 ^ 64) (126 - (count_leading_zeros 64 b - 40))
+split_small b P B = let t = leading_top 64 b P (omega arith) in counted b (count_leading_zeros 64 b) t.0 B t.1 t.2 t.3
 
 -- ---- the whole
 -- n and k hold the number: x in squared units is n * 4 ^ k

@@ -1,21 +1,22 @@
 -- Which values the tests of `sqrt` and `by_search` leave, that each answer there is the definition's, and which patterns are none of NaN's. Assumes nothing.
-use mathlib.Core.Path.{◌≡◌, refl, sym, ap, ◌∙◌}
+use mathlib.Core.Path.{◌≡◌, refl, sym, ap, ◌∙◌, subst}
 use mathlib.Core.Bool.{true, false, not, true≢false}
 use Prim.Native.Nat.{ℕ, zero, suc, ◌%◌, ◌^◌, ◌≤◌, ◌<◌}
 use native.Mathlib.Omega.{arith}
 use borrow.Author.Tests.{le-ltb}
 use lib.Dec.{T}
-use lib.Ieee.{Float, nan, inf, fin, binary32, binary64, of_bits, to_bits, nan_bits, is_nan, fits, lt, eq}
+use lib.Ieee.{Float, nan, inf, fin, binary32, binary64, of_bits, to_bits, nan_bits, fits, lt, eq}
 use lib.Ieee.Bits.{of_bits-to_bits, nan_bits_above}
 use Rattle.float.specs.F32 as F
-use Rattle.float.specs.FloatLaws.{lt_right, eq-zero, zero_equals, above_zero, zero_not_above, no_nan_pattern}
+use Rattle.float.specs.FloatLaws.{eq-zero, zero_equals, above_zero, zero_not_above, no_nan_pattern}
 use Rattle.root.specs.Root.{root, root_bits}
 use Rattle.root.specs.RootRule.{root_infinity}
 use Rattle.root.specs.RootLaws.{root_finite}
 use Rattle.root.specs.Values.{infinite}
 
-pub above_is_number : (a x : Float) → lt a x ≡ true → T (not (is_nan x))
-above_is_number a x h = let e : is_nan x ≡ false = lt_right a x h in rw e tt
+-- what owning an `f32` tells: the format holds it
+pub held : (x : Float) → fits binary32 x ≡ true → T (fits binary32 x)
+held x e = subst T (sym e) tt
 
 pub at_infinity : (x : Float) → T (fits binary32 x) → to_bits binary32 x ≡ 0x7f80_0000 → x ≡ root x
 at_infinity x fit e =

@@ -32,13 +32,7 @@ fn is_near(n: u64, g: u64) -> bool
     ensures { result ≡ is_near n g }
 {
     let square = g * g;
-    if square >= n + g {
-        return false;
-    }
-    if n + g - square > 4 * g + 2 {
-        return false;
-    }
-    true
+    square < n + g && n + g - square <= 4 * g + 2
 }
 
 // How far the root of n, rounded, is from g, 0 or 1, where it is near: the inequality between the two, n ≤ g² + g, asked

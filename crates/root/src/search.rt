@@ -12,6 +12,7 @@ struct Parts {
 }
 
 // The number of the pattern b, with m's leading digit at place 23.
+// Kept: that b is above zero is a `requires`, here and twice more. A NonZero of two widths would be turned back into a number at once.
 fn split(b: u64) -> Parts
     requires { (0 < b) × (b < 2 ^ 31) }
     ensures { IsParts b result.m result.e }
@@ -22,13 +23,11 @@ fn split(b: u64) -> Parts
             e: b / 0x80_0000 + 125,
         };
     }
-    let mut m = b;
-    let mut e = 126u64;
-    while m < 0x80_0000 {
-        m = m * 2;
-        e -= 1;
+    let places = b.leading_zeros() as u64 - 40;
+    Parts {
+        m: b << places,
+        e: 126 - places,
     }
-    Parts { m, e }
 }
 
 // The whole number nearest to the root of n, by halving.
@@ -38,6 +37,7 @@ fn nearest_root(n: u64) -> u64
 {
     let mut lo = 0x80_0000u64;
     let mut hi = 0x100_0000u64;
+    // Kept: it halves, and counts no index.
     while lo + 1 < hi {
         let mid = lo + (hi - lo) / 2;
         if mid * mid <= n {
@@ -58,9 +58,8 @@ fn root_bits(b: u32) -> u32
     requires { (0 < b) × (b < 2 ^ 31) }
     ensures { result ≡ root_bits b }
 {
-    let p = split(b as u64);
-    let e = p.e;
-    let mut n = p.m * 0x80_0000;
+    let Parts { m, e } = split(b as u64);
+    let mut n = m * 0x80_0000;
     if e % 2 == 1 {
         n = n * 2;
     }
@@ -82,5 +81,5 @@ pub fn by_search(x: f32) -> f32
     if x == 0.0 {
         return x;
     }
-    0.0 / 0.0
+    f32::NAN
 }

@@ -2,149 +2,92 @@
 #![tactic(auto)]
 
 ghost use Rattle.std.specs.Prelude.{◌≡◌};
-ghost use Rattle.statistics.specs.Statistics.{bad_alpha, zero_statistics, call_new_statistics, sampled, call_add_sample, call_mean_var, call_std_dev};
+ghost use Rattle.statistics.specs.Statistics.{bad_alpha, call_new_statistics, sampled, call_add_sample, call_mean_var, call_std_dev};
 
-use refusal::Refusal;
+use refusal::{Answer, Refusal};
 
-#[derive(Clone, Copy)]
+#[derive(Clone, Copy, Debug, Default, PartialEq)]
 pub struct Statistics {
+    // Kept: a flag beside the numbers, and no Option of them. A state built by hand holds numbers that are not in use yet, and shows them.
     pub initialized: bool,
     pub alpha: f32,
     pub mean: f32,
     pub variance: f32,
 }
 
-// What the constructor and a sample give: refused, the constructor's state is all-zero and a sample's is as it was.
-#[derive(Clone, Copy)]
-pub struct Changed {
-    pub refusal: Refusal,
-    pub statistics: Statistics,
-}
-
-#[derive(Clone, Copy)]
+#[derive(Clone, Copy, Debug, Default, PartialEq)]
 pub struct MeanVar {
-    pub refusal: Refusal,
     pub mean: f32,
     pub variance: f32,
-}
-
-#[derive(Clone, Copy)]
-pub struct StdDev {
-    pub refusal: Refusal,
-    pub y: f32,
 }
 
 fn bad_alpha(alpha: f32) -> bool
     ensures { result ≡ bad_alpha alpha }
 {
-    if alpha > 0.0 {
-        return !(alpha <= 1.0);
-    }
-    true
-}
-
-fn zero() -> Statistics
-    ensures { result ≡ zero_statistics }
-{
-    Statistics {
-        initialized: false,
-        alpha: 0.0,
-        mean: 0.0,
-        variance: 0.0,
-    }
-}
-
-fn sampled(s: Statistics, sample: f32) -> Statistics
-    ensures { result ≡ sampled s sample }
-{
-    if s.initialized {
-        let delta = sample - s.mean;
-        return Statistics {
-            initialized: true,
-            alpha: s.alpha,
-            mean: s.mean + delta * s.alpha,
-            variance: (s.variance + delta * delta * s.alpha) * (1.0 - s.alpha),
-        };
-    }
-    Statistics {
-        initialized: true,
-        alpha: s.alpha,
-        mean: sample,
-        variance: 0.0,
-    }
+    !(alpha > 0.0 && alpha <= 1.0)
 }
 
 impl Statistics {
-    pub fn new(alpha: f32) -> Changed
+    // Refused, the state is all-zero.
+    pub fn new(alpha: f32) -> Answer<Statistics>
         ensures { result ≡ call_new_statistics alpha }
     {
         if bad_alpha(alpha) {
-            let refusal = Refusal::Alpha;
-            let statistics = zero();
-            return Changed {
-                refusal,
-                statistics,
+            return Refusal::Alpha.with(Statistics::default());
+        }
+        Ok(Statistics {
+            alpha,
+            ..Statistics::default()
+        })
+    }
+
+    fn sampled(self, sample: f32) -> Statistics
+        ensures { result ≡ sampled self sample }
+    {
+        if !self.initialized {
+            return Statistics {
+                initialized: true,
+                mean: sample,
+                variance: 0.0,
+                ..self
             };
         }
-        let refusal = Refusal::None;
-        let statistics = Statistics {
-            initialized: false,
-            alpha,
-            mean: 0.0,
-            variance: 0.0,
-        };
-        Changed {
-            refusal,
-            statistics,
+        let delta = sample - self.mean;
+        Statistics {
+            mean: self.mean + delta * self.alpha,
+            variance: (self.variance + delta * delta * self.alpha) * (1.0 - self.alpha),
+            ..self
         }
     }
 
-    pub fn add_sample(self, sample: f32) -> Changed
+    // Refused, the state is as it was.
+    pub fn add_sample(self, sample: f32) -> Answer<Statistics>
         ensures { result ≡ call_add_sample self sample }
     {
         if bad_alpha(self.alpha) {
-            let refusal = Refusal::Alpha;
-            return Changed {
-                refusal,
-                statistics: self,
-            };
+            return Refusal::Alpha.with(self);
         }
-        let refusal = Refusal::None;
-        let statistics = sampled(self, sample);
-        Changed {
-            refusal,
-            statistics,
-        }
+        Ok(self.sampled(sample))
     }
 
-    pub fn mean_var(self) -> MeanVar
+    pub fn mean_var(self) -> Answer<MeanVar>
         ensures { result ≡ call_mean_var self }
     {
         if bad_alpha(self.alpha) {
-            let refusal = Refusal::Alpha;
-            return MeanVar {
-                refusal,
-                mean: 0.0,
-                variance: 0.0,
-            };
+            return Refusal::Alpha.with(MeanVar::default());
         }
-        let refusal = Refusal::None;
-        MeanVar {
-            refusal,
+        Ok(MeanVar {
             mean: self.mean,
             variance: self.variance,
-        }
+        })
     }
 
-    pub fn std_dev(self) -> StdDev
+    pub fn std_dev(self) -> Answer<f32>
         ensures { result ≡ call_std_dev self }
     {
         if bad_alpha(self.alpha) {
-            let refusal = Refusal::Alpha;
-            return StdDev { refusal, y: 0.0 };
+            return Refusal::Alpha.with(0.0);
         }
-        let refusal = Refusal::None;
-        let y = root::sqrt(self.variance);
-        StdDev { refusal, y }
+        Ok(root::sqrt(self.variance))
     }
 }

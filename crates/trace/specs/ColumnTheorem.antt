@@ -3,7 +3,7 @@
 use Rattle.std.specs.Prelude.{◌≡◌, List, true, ℕ, ◌+◌, ◌*◌, ◌≤◌, ◌<◌, length, get_or, take, drop}
 use Rattle.std.proofs.Common.{sym, ap, ◌∙◌, arith}
 use Rattle.std.specs.Float.{nan}
-use Rattle.refusal.specs.Refusal.{passes}
+use Rattle.refusal.specs.Answers.{given, refusal_of, passes}
 use Rattle.npy.specs.declared.reader.Kind.TheVariants.{F4}
 use Rattle.npy.specs.Header.{call_header}
 use Rattle.npy.specs.Lines.{word_of}
@@ -22,15 +22,15 @@ unfoldable pub printed_word : List ℕ → ℕ → ℕ → List ℕ
 printed_word s L r = take 8 (drop (r * (9 * lanes_of s) + 9 * L) (replay_of s))
 
 -- they are those of the r-th value of one controller that is made with the lane's settings and updated with the lane's cells
-pub column_theorem : (s : List ℕ) (m L r : ℕ) → passes (call_start s).refusal ≡ true → CanTake m (call_start s).course (bytes_after_start s) → L < lanes_of s → r < m
+pub column_theorem : (s : List ℕ) (m L r : ℕ) → passes (refusal_of (call_start s)) ≡ true → CanTake m (given (call_start s)).course (bytes_after_start s) → L < lanes_of s → r < m
     → printed_word s L r ≡ word_of (get_or (single_values (controller_at (settings_of s) L) (lane_updates (cell_kind_of s) (lanes_of s) L m (bytes_after_start s))) r nan)
 unfolding printed_word
 column_theorem s m L r e w l h =
     let g = accepted_start s e in
     let few : lanes_of s ≤ 8 = rw g.lanes g.settings.few in
-    let own : L < (call_header s).rows = rw g.lanes at l in
-    let lies : Lies L (call_start s).course.bank (controller_at (settings_of s) L) = rw g.bank (opened_lies (call_header s).rows (settings_of s) L g.settings.few own) in
-    rw (accepted-lines s m e w) (rows_word r m (call_start s).course (bytes_after_start s) L (controller_at (settings_of s) L) _ h (omega arith) l lies)
+    let own : L < (given (call_header s)).rows = rw g.lanes at l in
+    let lies : Lies L (given (call_start s)).course.bank (controller_at (settings_of s) L) = rw g.bank (opened_lies (given (call_header s)).rows (settings_of s) L g.settings.few own) in
+    rw (accepted-lines s m e w) (rows_word r m (given (call_start s)).course (bytes_after_start s) L (controller_at (settings_of s) L) _ h (omega arith) l lies)
 
 -- two files have the same lane L: as many lanes, cells of one kind, equal settings of lane L, and in the first n rows equal cells of it
 pub record SameLane (s t : List ℕ) (L n : ℕ) : Type 0 where
@@ -49,8 +49,8 @@ unfolding lane_update_at
 same_update s t L n r e h = rw (e.cells r 0 h (omega arith), e.cells r 1 h (omega arith), e.cells r 2 h (omega arith))
 
 -- then they print equal digits for it in each of these rows that can be taken of both, however the files end
-pub same-column : (s t : List ℕ) (L n m k r : ℕ) → passes (call_start s).refusal ≡ true → passes (call_start t).refusal ≡ true
-    → CanTake m (call_start s).course (bytes_after_start s) → CanTake k (call_start t).course (bytes_after_start t) → L < lanes_of s → SameLane s t L n → r < n → r < m → r < k
+pub same-column : (s t : List ℕ) (L n m k r : ℕ) → passes (refusal_of (call_start s)) ≡ true → passes (refusal_of (call_start t)) ≡ true
+    → CanTake m (given (call_start s)).course (bytes_after_start s) → CanTake k (given (call_start t)).course (bytes_after_start t) → L < lanes_of s → SameLane s t L n → r < n → r < m → r < k
     → printed_word s L r ≡ printed_word t L r
 same-column s t L n m k r es et ws wt l e hn hm hk =
     column_theorem s m L r es ws l hm
@@ -79,7 +79,7 @@ same-column s t L n m k r es et ws wt l e hn hm hk =
         ∙ sym (updates_at (cell_kind_of t) (lanes_of t) L k (bytes_after_start t) q d (omega arith))
 
 -- document 01: two accepted files with equal shapes, kind, lane L settings and lane L cells give equal L columns
-pub equal_columns : (s t : List ℕ) (L : ℕ) → AcceptedFile s → AcceptedFile t → (call_start s).course.left ≡ (call_start t).course.left → L < lanes_of s
-    → SameLane s t L (call_start s).course.left → (r : ℕ) → r < (call_start s).course.left → printed_word s L r ≡ printed_word t L r
+pub equal_columns : (s t : List ℕ) (L : ℕ) → AcceptedFile s → AcceptedFile t → (given (call_start s)).course.left ≡ (given (call_start t)).course.left → L < lanes_of s
+    → SameLane s t L (given (call_start s)).course.left → (r : ℕ) → r < (given (call_start s)).course.left → printed_word s L r ≡ printed_word t L r
 equal_columns s t L a b same l e r h =
-    same-column s t L (call_start s).course.left (call_start s).course.left (call_start t).course.left r a.start_passes b.start_passes a.rows b.rows l e h h (omega arith)
+    same-column s t L (given (call_start s)).course.left (given (call_start s)).course.left (given (call_start t)).course.left r a.start_passes b.start_passes a.rows b.rows l e h h (omega arith)

@@ -1,13 +1,14 @@
 -- The end of a text: a line is written whole or not at all. Assumes nothing.
-use Rattle.std.specs.Prelude.{◌≡◌, Bool, true, false, ℕ, ◌+◌, ◌/◌, ◌%◌, ◌≤◌, ◌<◌, get_or, set, drop}
+use Rattle.std.specs.Prelude.{◌≡◌, Option, Some, None, Bool, true, false, ℕ, ◌+◌, ◌/◌, ◌%◌, ◌≤◌, ◌<◌, get_or, set, drop}
 use Rattle.std.proofs.Math.Path.{refl}
-use Rattle.std.proofs.Common.{◌∙◌, add-one, arith, lt-ltb, le-ltb, le-leb, drop_of_length-le, drop-cons}
+use Rattle.std.proofs.Common.{sym, ◌∙◌, true≢false, add-one, arith, lt-ltb, le-ltb, le-leb, drop_of_length-le, drop-cons}
 use mathlib.Core.List.{List, [], ◌∷◌, ◌++◌}
 use Rattle.std.proofs.lemmas.Bool.{lt-leb}
 use Rattle.std.proofs.Math.ListN.{length}
-use Rattle.std.proofs.lemmas.List.Edits.{sets}
+use Rattle.std.proofs.lemmas.List.Edits.{sets, sets-eq}
 use Rattle.refusal.specs.declared.Refusal.{Refusal}
-use Rattle.refusal.specs.Refusal.{number_of, passes}
+use Rattle.refusal.specs.Refusal.{number_of}
+use Rattle.refusal.specs.Answers.{passes}
 use Rattle.trace.specs.Trace.{in_decimal, refused_word, refused_line, reason_text}
 use Rattle.trace.specs.Slices.{wrote, wrote_count}
 
@@ -31,6 +32,13 @@ module _ (out text : List ℕ) where
   wrote_all n out' e h g =
       let t : length text ≤ length out = rw e at h in
       (e ∙ rw (le-leb (length text) (length out) t), g ∙ rw (le-leb (length text) (length out) t))
+
+-- a text is what the front of the same length is made to hold
+pub wrote_front : (out text m : List ℕ) → length text ≤ length out → m ≡ text → (length text ≡ wrote_count out text) × (m ++ drop (length text) out ≡ wrote out text)
+wrote_front out text m h e =
+    let z : 0 + length text ≡ length text = omega arith in
+    let put : m ++ drop (length text) out ≡ sets out 0 text = rw (e, sets-eq text out 0 (omega arith), z) in
+    wrote_all out text (length text) _ refl h put
 
 -- ---- `refused N`
 
@@ -59,11 +67,17 @@ module _ (why : Refusal) (n : ℕ) (e : n ≡ number_of why) (out : List ℕ) wh
 
 -- ---- the line that a refusal adds
 
-module _ (why : Refusal) (t : Bool) (e : t ≡ passes why) where
-  pub reason_none : t ≡ true → (out : List ℕ) → (0 ≡ wrote_count out (reason_text why)) × (out ≡ wrote out (reason_text why))
-  unfolding reason_text
-  reason_none h out = rw (← e, h) (wrote_all out [] 0 out refl (omega arith) refl)
+none_text : (why : Option Refusal) → passes why ≡ true → reason_text why ≡ []
+none_text None h = refl
+none_text (Some why) h = absurd (true≢false (sym h))
 
-  pub reason_some : t ≡ false → reason_text why ≡ refused_line why
-  unfolding reason_text
-  reason_some h = rw (← e, h)
+some_text : (why : Option Refusal) → passes why ≡ false → (refusal : Refusal) × (why ≡ Some refusal) × (reason_text why ≡ refused_line refusal)
+some_text None h = absurd (true≢false h)
+some_text (Some why) h = (why, refl, refl)
+
+module _ (why : Option Refusal) (t : Bool) (e : t ≡ passes why) where
+  pub reason_none : t ≡ true → (out : List ℕ) → (0 ≡ wrote_count out (reason_text why)) × (out ≡ wrote out (reason_text why))
+  reason_none h out = rw (none_text why (sym e ∙ h)) (wrote_all out [] 0 out refl (omega arith) refl)
+
+  pub reason_some : t ≡ false → (refusal : Refusal) × (why ≡ Some refusal) × (reason_text why ≡ refused_line refusal)
+  reason_some h = some_text why (sym e ∙ h)

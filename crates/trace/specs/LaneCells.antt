@@ -3,6 +3,7 @@ use Rattle.std.specs.Prelude.{◌≡◌, List, [], ◌∷◌, ℕ, ◌+◌, ◌*
 use Rattle.std.proofs.Common.{ap, subst, ◌∙◌, zero-mul, add_assoc, mul_assoc, add-mul, arith, drop-drop}
 use Rattle.lanes.specs.Runs.{left}
 use Rattle.lanes.specs.Lanes.{of_lane}
+use Rattle.refusal.specs.Answers.{given}
 use Rattle.rate_pid.specs.RatePid.{new_rate_pid}
 use Rattle.npy.specs.declared.reader.Kind.{Kind}
 use Rattle.npy.specs.declared.reader.Kind.TheVariants.{F4}
@@ -76,10 +77,10 @@ opened_lies k s L h l =
 
 -- the data of a file's first array; the lanes and the kind of its second
 abbrev pub settings_of : List ℕ → List ℕ
-settings_of s = drop (call_header s).at s
+settings_of s = drop (given (call_header s)).at s
 
 abbrev pub lanes_of : List ℕ → ℕ
-lanes_of s = (call_start s).course.lanes
+lanes_of s = (given (call_start s)).course.lanes
 
 abbrev pub cell_kind_of : List ℕ → Kind
-cell_kind_of s = (call_start s).course.kind
+cell_kind_of s = (given (call_start s)).course.kind

@@ -1,18 +1,18 @@
 -- What rows print for one lane: the values of one controller that is updated with the lane's cells. Assumes nothing.
-use Rattle.std.specs.Prelude.{◌≡◌, refl, List, [], ◌∷◌, ◌++◌, ℕ, zero, suc, ◌+◌, ◌-◌, ◌*◌, ◌≤◌, ◌<◌, Float, length, get_or, take, drop}
+use Rattle.std.specs.Prelude.{◌≡◌, refl, None, List, [], ◌∷◌, ◌++◌, ℕ, zero, suc, ◌+◌, ◌-◌, ◌*◌, ◌≤◌, ◌<◌, Float, length, get_or, take, drop}
 use Rattle.std.proofs.Common.{ap, subst, ◌∙◌, append_assoc, suc-mul, zero-mul, zero-add, arith, lt-ltb}
 use Rattle.std.specs.Float.{nan}
 use Rattle.std.proofs.Math.Seq.{drop-append-add}
 use Rattle.lanes.specs.Runs.{answers, left, answers_length}
 use Rattle.lanes.specs.Lanes.{For, for, of_lane}
-use Rattle.refusal.specs.declared.Refusal.TheVariants as Refusal
+use Rattle.refusal.specs.Answers.{Answer, given}
 use Rattle.npy.specs.declared.reader.Kind.{Kind}
 use Rattle.npy.specs.Header.{cell_width}
 use Rattle.npy.specs.Cell.{cells_of}
 use Rattle.npy.specs.Lines.{word_of}
 use Rattle.npy.specs.LinesLaws.{line_column}
 use Rattle.bank.specs.declared.lane.Op.{Op}
-use Rattle.bank.specs.declared.lane.Answer.{Answer}
+use Rattle.bank.specs.declared.lane.Reply.{Reply}
 use Rattle.bank.specs.declared.Bank.{Bank}
 use Rattle.bank.specs.Lane.{plain}
 use Rattle.bank.specs.Bank.{call_bank}
@@ -52,9 +52,9 @@ pub run-turn : (ops : List Op) (b : Bank) (lane : ℕ) → run b (in_turn lane o
 unfolding answers in_turn things
 run-turn [] b lane = refl
 run-turn (op ∷ ops) b lane =
-    ap (λ (l : List (For Answer)). for lane (call_bank b lane op).answer ∷ l) (run-turn ops (call_bank b lane op).bank (suc lane))
+    ap (λ (l : List (For (Answer Reply))). for lane (call_bank b lane op).answer ∷ l) (run-turn ops (call_bank b lane op).state (suc lane))
 
-pub value_of_answer : (xs : List (For Answer)) (i : ℕ) (d : Answer) → i < length xs → get_or (values_of xs) i nan ≡ (get_or (things xs) i d).y
+pub value_of_answer : (xs : List (For (Answer Reply))) (i : ℕ) (d : Answer Reply) → i < length xs → get_or (values_of xs) i nan ≡ (given (get_or (things xs) i d)).y
 unfolding values_of things
 value_of_answer [] i d h = absurd (omega arith)
 value_of_answer (x ∷ xs) zero d h = refl
@@ -66,7 +66,7 @@ things_length [] = refl
 things_length (x ∷ xs) = ap suc (things_length xs)
 
 -- the one answer of a lane stands in its place
-pub answered_at : (b : Bank) (calls : List (For Op)) (ops : List Op) → calls ≡ in_turn 0 ops → (L : ℕ) (d : Answer) → L < length (run b calls)
+pub answered_at : (b : Bank) (calls : List (For Op)) (ops : List Op) → calls ≡ in_turn 0 ops → (L : ℕ) (d : Answer Reply) → L < length (run b calls)
     → of_lane L (run b calls) ≡ get_or (things (run b calls)) L d ∷ []
 answered_at b calls ops e L d h =
     let turn : run b calls ≡ in_turn 0 (things (run b calls)) = rw e (run-turn ops b 0) in
@@ -78,7 +78,7 @@ answered_at b calls ops e L d h =
 -- the values that it answers
 unfoldable pub single_values : Single → List Op → List Float
 single_values c [] = []
-single_values c (op ∷ ops) = (call_single c op).answer.y ∷ single_values (call_single c op).single ops
+single_values c (op ∷ ops) = (given (call_single c op).answer).y ∷ single_values (call_single c op).single ops
 
 -- they depend on the calls so far
 pub single_values-same : (r : ℕ) (c : Single) (ops other : List Op) (d : Op) → r < length ops → r < length other
@@ -107,17 +107,17 @@ row_of_lane c s L h = ap (of_lane L) (row-turn c s) ∙ lane_of_each (update_of 
 
 -- what is printed for it is its controller's answer
 pub row-value : (c : Course) (s : List ℕ) (L : ℕ) (σ : Single) → L ≤ 7 → L < c.lanes → Lies L c.bank σ
-    → get_or (values_of (run c.bank (calls_of_row c s))) L nan ≡ (call_single σ (lane_update c.kind L s)).answer.y
+    → get_or (values_of (run c.bank (calls_of_row c s))) L nan ≡ (given (call_single σ (lane_update c.kind L s)).answer).y
 unfolding answers
 row-value c s L σ h l lies =
     let b = c.bank in
     let op = lane_update c.kind L s in
-    let d : Answer = plain Refusal.None in
+    let d : Answer Reply = plain None in
     let len : length (run b (calls_of_row c s)) ≡ c.lanes = answers_length bank_machine (calls_of_row c s) b ∙ row_count c s in
     let told : of_lane L (run b (calls_of_row c s)) ≡ get_or (things (run b (calls_of_row c s))) L d ∷ [] = answered_at b (calls_of_row c s) _ (row-turn c s) L d (omega arith) in
     let heard : of_lane L (run b (calls_of_row c s)) ≡ (call_single σ op).answer ∷ [] = lies_run L h (calls_of_row c s) b σ lies ∙ ap (single_run σ) (row_of_lane c s L l) in
     let same : get_or (things (run b (calls_of_row c s))) L d ≡ (call_single σ op).answer = cc in
-    value_of_answer (run b (calls_of_row c s)) L d (omega arith) ∙ ap (λ (a : Answer). a.y) same
+    value_of_answer (run b (calls_of_row c s)) L d (omega arith) ∙ ap (λ (a : Answer Reply). (given a).y) same
 
 -- and after it its controller is updated
 pub row_lies : (c : Course) (s : List ℕ) (L : ℕ) (σ : Single) → L ≤ 7 → L < c.lanes → Lies L c.bank σ

@@ -1,8 +1,8 @@
 pub mod LanesInTurn
 pub mod Trace
 pub mod Slices
-pub mod Taken
 pub mod RowRefusalLaws
+pub mod Taken
 pub mod RowsTakenLaws
 pub mod RowsForLaws
 pub mod AcceptedStart

@@ -9,7 +9,7 @@ use Rattle.std.proofs.lemmas.List.Edits.{sets}
 use Rattle.std.proofs.Math.Seq.{length-sets}
 use Rattle.std.proofs.lemmas.List.{drop-set-add, take-set-le}
 use Rattle.lemmas.specs.Lists.{sets_append, to_end}
-use Rattle.refusal.specs.Refusal.{passes}
+use Rattle.refusal.specs.Answers.{passes}
 use Rattle.trace.specs.declared.course.Course.{Course}
 use Rattle.trace.specs.declared.course.RowsTaken.{RowsTaken}
 use Rattle.trace.specs.Trace.{row_width, row_line, after_row, row_lines, row_refusal, course_lines}
@@ -74,15 +74,15 @@ module _ (s out₀ : List ℕ) (c₀ : Course) where
       lines_last h = lines-put ∙ ap (sets out o) (sym h) ∙ p.text
 
       -- the next row is refused
-      pub print_refused : (t : Bool) → t ≡ passes went.refusal → t ≡ false → take o out ++ (ys ++ drop (length out - o) (drop o out)) ≡ sets out₀ 0 (course_lines c₀ s)
-      print_refused t et f =
-          let stop = refused_stops s c at cells values (length (take (length out - o) (drop o out))) went e (sym et ∙ f) in
+      pub print_refused : passes went.refusal ≡ false → take o out ++ (ys ++ drop (length out - o) (drop o out)) ≡ sets out₀ 0 (course_lines c₀ s)
+      print_refused f =
+          let stop = refused_stops s c at cells values (length (take (length out - o) (drop o out))) went e f in
           lines_last ((rows_cut went.rows c (drop at s) here.taken).0 ∙ rw (spent_lines _ _ stop.0, append-nil))
 
       -- none was tried, though there is room for the lines that are to come: so there is none
-      pub print_none : 24 ≤ cells → 8 ≤ values → (t : Bool) → t ≡ passes went.refusal → t ≡ true → went.rows ≡ 0 → take o out ++ (ys ++ drop (length out - o) (drop o out)) ≡ sets out₀ 0 (course_lines c₀ s)
+      pub print_none : 24 ≤ cells → 8 ≤ values → passes went.refusal ≡ true → went.rows ≡ 0 → take o out ++ (ys ++ drop (length out - o) (drop o out)) ≡ sets out₀ 0 (course_lines c₀ s)
       unfolding row_lines
-      print_none x y t et f z = lines_last (go (passes (row_refusal c (drop at s))) refl ∙ rw z)
+      print_none x y f z = lines_last (go (passes (row_refusal c (drop at s))) refl ∙ rw z)
         where
           go : (b : Bool) → passes (row_refusal c (drop at s)) ≡ b → course_lines c (drop at s) ≡ []
           go false g = spent_lines c (drop at s) (inr g)
@@ -92,12 +92,12 @@ module _ (s out₀ : List ℕ) (c₀ : Course) where
               ap length (row_cut c (drop at s) l g).0 ∙ length-append (row_line c (drop at s)) _ ∙ rw (row_length c (drop at s)) (omega arith) in
               let lo : length (take (length out - o) (drop o out)) ≡ length out - o = rw (to_end out o) (length-drop o out) in
               let some = some_tried c (length (drop at s)) cells values (length (take (length out - o) (drop o out))) l row.form row.there x y (omega (arith, p.fits, p.long)) in
-              let none : rows_tried c (length (drop at s)) cells values (length (take (length out - o) (drop o out))) ≡ 0 = sym (here.all (sym et ∙ f)).0 ∙ z in
+              let none : rows_tried c (length (drop at s)) cells values (length (take (length out - o) (drop o out))) ≡ 0 = sym (here.all f).0 ∙ z in
               absurd (omega arith)
 
-      pub print_on : (t : Bool) → t ≡ passes went.refusal → t ≡ true → Printing s out₀ c₀ (take o out ++ (ys ++ drop (length out - o) (drop o out))) went.course (at + went.taken) (o + went.written)
-      print_on t et f =
-          let on = on_here s c at cells values (length (take (length out - o) (drop o out))) went e (sym et ∙ f) in
+      pub print_on : passes went.refusal ≡ true → Printing s out₀ c₀ (take o out ++ (ys ++ drop (length out - o) (drop o out))) went.course (at + went.taken) (o + went.written)
+      print_on f =
+          let on = on_here s c at cells values (length (take (length out - o) (drop o out))) went e f in
           let place = place_here s c at cells values (length (take (length out - o) (drop o out))) went e in
           let a = row_lines went.rows c (drop at s) in
           let al : length (row_lines went.rows c (drop at s)) ≡ went.written = next_length went.rows c (drop at s) ∙ sym here.lines in

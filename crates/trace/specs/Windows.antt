@@ -1,11 +1,11 @@
 -- The windows theorem: a reader that takes a trace in parts, of any sizes, prints what the whole trace means. Assumes nothing.
-use Rattle.std.specs.Prelude.{◌≡◌, refl, List, [], ◌∷◌, ◌++◌, Bool, true, false, ◌⊎◌, ℕ, zero, suc, ◌-◌, ◌*◌, ◌≤◌, ◌<◌, length, take, drop}
+use Rattle.std.specs.Prelude.{◌≡◌, refl, Some, List, [], ◌∷◌, ◌++◌, Bool, true, false, ◌⊎◌, ℕ, zero, suc, ◌-◌, ◌*◌, ◌≤◌, ◌<◌, length, take, drop}
 use Rattle.std.proofs.Common.{sym, ap, ◌∙◌, append_assoc, append-nil, inl, inr, ⊎_elim, arith, length-append, le-ltb}
 use Rattle.std.proofs.Math.Seq.{take-append_seam}
 use Rattle.std.proofs.lemmas.List.{drop-append-le}
 use Rattle.lemmas.specs.Cases.{lt_or_le}
 use Rattle.refusal.specs.declared.Refusal.{Refusal}
-use Rattle.refusal.specs.Refusal.{passes}
+use Rattle.refusal.specs.Answers.{passes}
 use Rattle.npy.specs.CellLaws.{cells_take}
 use Rattle.trace.specs.declared.course.Course.{Course}
 use Rattle.trace.specs.Trace.{refused_line, reason_text, row_width, calls_of_row, row_line, after_row, row_lines, after_rows, form_refusal, cut_refusal, row_refusal, course_refusal, course_text}
@@ -99,7 +99,7 @@ pub windows_theorem : (ws : List Window) (c : Course) (kept : List ℕ) → Allo
 windows_theorem ws c kept a =
     windows_to Spent [] (λ c kept h. rw (append-nil kept) (spent_text c kept h)) ws c kept a ∙ rw (append-nil (joined ws))
 
-refused_ahead : (c : Course) (kept more : List ℕ) → (row_refusal c kept ≡ Refusal.Cut → ⊥) → row_refusal c (kept ++ more) ≡ row_refusal c kept
+refused_ahead : (c : Course) (kept more : List ℕ) → (row_refusal c kept ≡ Some Refusal.Cut → ⊥) → row_refusal c (kept ++ more) ≡ row_refusal c kept
 refused_ahead c kept more other = go (passes (form_refusal c.kind c.lanes)) refl
   where
     go : (t : Bool) → passes (form_refusal c.kind c.lanes) ≡ t → row_refusal c (kept ++ more) ≡ row_refusal c kept
@@ -107,29 +107,28 @@ refused_ahead c kept more other = go (passes (form_refusal c.kind c.lanes)) refl
     go true e = ⊎_elim (λ (g : length kept < row_width c). absurd (other (row-short c kept e g).0)) (λ (g : row_width c ≤ length kept). row_ahead c kept more g) (lt_or_le (length kept) (row_width c))
 
 -- a reader need not read to the end: what the next row is refused with, unless it is that it is cut off, is known where the row is held
-pub refused-known : (c : Course) (kept more : List ℕ) → 0 < c.left → passes (row_refusal c kept) ≡ false → (row_refusal c kept ≡ Refusal.Cut → ⊥) → course_text c (kept ++ more) ≡ refused_line (row_refusal c kept)
-unfolding course_text reason_text
+pub refused-known : (c : Course) (kept more : List ℕ) → 0 < c.left → passes (row_refusal c kept) ≡ false → (row_refusal c kept ≡ Some Refusal.Cut → ⊥) → course_text c (kept ++ more) ≡ reason_text (row_refusal c kept)
+unfolding course_text
 refused-known c kept more l h other =
     let same = refused_ahead c kept more other in
     let stop : passes (row_refusal c (kept ++ more)) ≡ false = ap passes same ∙ h in
-    rw (spent_lines c (kept ++ more) (inr stop), spent_row c (kept ++ more) l stop, same, h)
+    rw (spent_lines c (kept ++ more) (inr stop), spent_row c (kept ++ more) l stop, same)
 
 -- and one byte after the last row is known to be refused
 pub rest-known : (c : Course) (kept more : List ℕ) → c.left ≡ 0 → 0 < length kept → course_text c (kept ++ more) ≡ refused_line Refusal.Rest
-unfolding course_text reason_text passes
+unfolding course_text
 rest-known c kept more e h =
     let some : 0 < length (kept ++ more) = rw length-append (omega arith) in
     rw (spent_lines c (kept ++ more) (inl e), spent_rest c (kept ++ more) e, rest_refusal_of_lem (kept ++ more), rest_some some)
 
 -- so a reader may stop there, whatever is still to be read
 abbrev pub EndKnown : Course → List ℕ → Type 0
-EndKnown c kept = ((0 < c.left) × (passes (row_refusal c kept) ≡ false) × (row_refusal c kept ≡ Refusal.Cut → ⊥)) ⊎ ((c.left ≡ 0) × (0 < length kept))
+EndKnown c kept = ((0 < c.left) × (passes (row_refusal c kept) ≡ false) × (row_refusal c kept ≡ Some Refusal.Cut → ⊥)) ⊎ ((c.left ≡ 0) × (0 < length kept))
 
 known-text : (more : List ℕ) (c : Course) (kept : List ℕ) → EndKnown c kept → course_text c (kept ++ more) ≡ reason_text (course_refusal c kept)
-unfolding reason_text passes
 known-text more c kept h =
     ⊎_elim
-    (λ (k : (0 < c.left) × (passes (row_refusal c kept) ≡ false) × (row_refusal c kept ≡ Refusal.Cut → ⊥)). refused-known c kept more k.0 k.1 k.2 ∙ sym (rw (spent_row c kept k.0 k.1, k.1)))
+    (λ (k : (0 < c.left) × (passes (row_refusal c kept) ≡ false) × (row_refusal c kept ≡ Some Refusal.Cut → ⊥)). refused-known c kept more k.0 k.1 k.2 ∙ sym (rw (spent_row c kept k.0 k.1)))
     (λ (k : (c.left ≡ 0) × (0 < length kept)). rest-known c kept more k.0 k.1 ∙ sym (rw (spent_rest c kept k.0, rest_refusal_of_lem kept, rest_some k.1)))
     h
 

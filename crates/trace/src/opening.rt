@@ -2,12 +2,12 @@
 ghost use Rattle.std.specs.Prelude.{◌≡◌, ◌≤◌, ◌&&◌, leb, eqb, length, drop};
 ghost use Rattle.npy.specs.Header.{has_cells};
 ghost use Rattle.trace.specs.StartBytes.{start_bytes};
-ghost use Rattle.trace.specs.Trace.{is_f4, settings_refusal, open_of, opened_bank, trace_refusal, refused_start, trace_start, call_start};
+ghost use Rattle.trace.specs.Trace.{settings_misfit, open_of, opened_bank, trace_misfit, refused_start, trace_start, call_start};
 
 use crate::course::{Begun, Course};
-use bank::{Bank, Op, SlewLimit};
+use bank::{Bank, Op};
 use npy::{Head, Kind};
-use refusal::Refusal;
+use refusal::{Answer, Refusal};
 
 // So many bytes of a file, or all of it where it has fewer, are enough for `start`: it answers as for the whole file.
 pub fn start_bytes() -> usize
@@ -16,77 +16,48 @@ pub fn start_bytes() -> usize
     2184
 }
 
-fn is_f4(kind: Kind) -> bool
-    ensures { result ≡ is_f4 kind }
-{
-    match kind {
-        Kind::F4 => true,
-        Kind::I2 => false,
-        Kind::Other => false,
-    }
-}
-
 pub(crate) fn has_cells(kind: Kind) -> bool
     ensures { result ≡ has_cells kind }
 {
     0 < kind.width()
 }
 
-// The shape (k, 5), k 1 to 8.
-fn settings_shape(rows: usize, cols: usize) -> bool
-    ensures { result ≡ (leb 1 rows && (leb rows 8 && eqb cols 5)) }
-{
-    if rows < 1 {
-        return false;
-    }
-    if 8 < rows {
-        return false;
-    }
-    cols == 5
-}
-
-// What the first array is refused with, of so many bytes in all.
-fn settings_refusal(head: Head, len: usize) -> Refusal
+// What the first array is refused with, whose header is accepted, of so many bytes in all: the shape is (k, 5), k 1 to 8.
+#[tactic(auto, unfolding(crate::specs::Trace::settings_misfit))]
+fn settings_misfit(head: Head, len: usize) -> Option<Refusal>
     requires { head.at ≤ len }
-    ensures { result ≡ settings_refusal head len }
+    ensures { result ≡ settings_misfit head len }
 {
-    let why = head.refusal;
-    let kind = head.kind;
-    if !why.passes() {
-        return why;
+    if head.kind != Kind::F4 {
+        return Some(Refusal::Kind);
     }
-    if !is_f4(kind) {
-        return Refusal::Kind;
-    }
-    if !settings_shape(head.rows, head.cols) {
-        return Refusal::Shape;
+    if !matches!(head.rows, 1..=8) || head.cols != 5 {
+        return Some(Refusal::Shape);
     }
     if len - head.at < head.rows * 20 {
-        return Refusal::Cut;
+        return Some(Refusal::Cut);
     }
-    Refusal::None
+    None
 }
 
-// What the second array's header is refused with, beside settings of k lanes.
-fn trace_refusal(k: usize, head: Head) -> Refusal
+// Kept: that k is at most 8 is a `requires`, here and twice below. A struct for one number is no plainer.
+// What the second array's header is refused with, which is accepted by itself, beside settings of k lanes.
+#[tactic(auto, unfolding(crate::specs::Trace::trace_misfit))]
+fn trace_misfit(k: usize, head: Head) -> Option<Refusal>
     requires { k ≤ 8 }
-    ensures { result ≡ trace_refusal k head }
+    ensures { result ≡ trace_misfit k head }
 {
-    let why = head.refusal;
-    let kind = head.kind;
-    if !why.passes() {
-        return why;
-    }
-    if !has_cells(kind) {
-        return Refusal::Kind;
+    if !has_cells(head.kind) {
+        return Some(Refusal::Kind);
     }
     if head.cols != k * 3 {
-        return Refusal::Shape;
+        return Some(Refusal::Shape);
     }
-    Refusal::None
+    None
 }
 
 // What a lane is opened with, by the settings from a place on.
+// Kept: a place, and no part: a setting that is cut off reads as what `npy::cell` says.
 fn open_at(settings: &[u8], at: usize) -> Op
     requires { at ≤ 160 }
     ensures { result ≡ open_of (drop at settings.now) }
@@ -96,14 +67,13 @@ fn open_at(settings: &[u8], at: usize) -> Op
     let kd = npy::cell(Kind::F4, settings, at + 8);
     let tau = npy::cell(Kind::F4, settings, at + 12);
     let dt = npy::cell(Kind::F4, settings, at + 16);
-    let slew = SlewLimit::Off;
     Op::Open {
         kp,
         ki,
         kd,
         tau,
         dt,
-        slew,
+        slew: None,
     }
 }
 
@@ -113,72 +83,63 @@ fn opened(k: usize, settings: &[u8]) -> Bank
     ensures { result ≡ opened_bank k settings.now }
 {
     let mut bank = Bank::fresh();
-    let mut lane = 0usize;
-    let mut at = 0usize;
-    while lane < k {
-        let next = bank.step(lane, open_at(settings, at));
-        bank = next.bank;
-        lane += 1;
-        at += 20;
+    for lane in 0..k {
+        bank = bank.step(lane, open_at(settings, lane * 20)).state;
     }
     bank
 }
 
-fn refused_start(refusal: Refusal) -> Begun
+#[tactic(auto, unfolding(crate::specs::Trace::refused_start))]
+fn refused_start(refusal: Refusal) -> Answer<Begun>
     ensures { result ≡ refused_start refusal }
 {
-    let kind = Kind::Other;
-    let bank = Bank::fresh();
-    let course = Course {
-        kind,
-        lanes: 0,
-        left: 0,
-        bank,
-    };
-    Begun {
-        refusal,
-        course,
+    refusal.with(Begun {
+        course: Course {
+            kind: Kind::Other,
+            lanes: 0,
+            left: 0,
+            bank: Bank::fresh(),
+        },
         at: 0,
-    }
+    })
 }
 
 // The second header, which begins at a place.
-fn trace_start(k: usize, bank: Bank, at: usize, bytes: &[u8]) -> Begun
+// Kept: a `match`, and no `?`: the results of a refused start are not those of a refused header.
+fn trace_start(k: usize, bank: Bank, at: usize, bytes: &[u8]) -> Answer<Begun>
     requires { (k ≤ 8) × (at ≤ length bytes.now) }
     ensures { result ≡ trace_start k bank at bytes.now }
 {
-    let head = npy::header(&bytes[at..]);
-    let why = trace_refusal(k, head);
-    if !why.passes() {
+    let head = match npy::header(&bytes[at..]) {
+        Ok(head) => head,
+        Err(refused) => return refused_start(refused.refusal),
+    };
+    if let Some(why) = trace_misfit(k, head) {
         return refused_start(why);
     }
-    let first = at + head.at;
-    let kind = head.kind;
-    let course = Course {
-        kind,
-        lanes: k,
-        left: head.rows,
-        bank,
-    };
-    let refusal = Refusal::None;
-    Begun {
-        refusal,
-        course,
-        at: first,
-    }
+    Ok(Begun {
+        course: Course {
+            kind: head.kind,
+            lanes: k,
+            left: head.rows,
+            bank,
+        },
+        at: at + head.at,
+    })
 }
 
 // What the start of a file says. Of a longer file its first `start_bytes()` bytes give the same answer.
-pub fn start(bytes: &[u8]) -> Begun
+pub fn start(bytes: &[u8]) -> Answer<Begun>
     ensures { result ≡ call_start bytes.now }
 {
-    let head = npy::header(bytes);
-    let why = settings_refusal(head, bytes.len());
-    if !why.passes() {
+    let head = match npy::header(bytes) {
+        Ok(head) => head,
+        Err(refused) => return refused_start(refused.refusal),
+    };
+    if let Some(why) = settings_misfit(head, bytes.len()) {
         return refused_start(why);
     }
     let k = head.rows;
-    let at = head.at;
-    let bank = opened(k, &bytes[at..]);
-    trace_start(k, bank, at + k * 20, bytes)
+    let bank = opened(k, &bytes[head.at..]);
+    trace_start(k, bank, head.at + k * 20, bytes)
 }

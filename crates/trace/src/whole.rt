@@ -1,10 +1,9 @@
 // A whole file in memory, and its text.
-ghost use Rattle.std.specs.Prelude.{◌≡◌, ◌≤◌, ◌<◌, false, length};
+ghost use Rattle.std.specs.Prelude.{◌≡◌, ◌≤◌, ◌<◌, Some, length};
 ghost use Rattle.std.proofs.lemmas.List.Edits.{sets};
 ghost use Rattle.trace.specs.Trace.{refused_line, reason_text, course_refusal, course_lines, course_text, replay_of};
 ghost use Rattle.trace.specs.Slices.{replayed_of, call_replay, wrote};
 ghost use Rattle.trace.specs.PrintLaws.{Printable};
-ghost use Rattle.refusal.specs.Refusal.{passes};
 
 use crate::course::{Course, Replayed};
 use crate::going::rows;
@@ -14,17 +13,20 @@ use crate::refusal_line::{reason_line, refused_line};
 use refusal::Refusal;
 
 // How many bytes the line of a refusal has.
-fn reason_length(why: Refusal) -> usize
+fn line_length(why: Refusal) -> usize
+    ensures { (result ≡ length (refused_line why)) × (result ≤ 11) }
+{
+    if why.number() < 10 { 10 } else { 11 }
+}
+
+// How many bytes the line that a refusal adds has.
+fn reason_length(why: Option<Refusal>) -> usize
     ensures { (result ≡ length (reason_text why)) × (result ≤ 11) }
 {
-    let n = why.number();
-    if n < 1 {
-        return 0;
+    match why {
+        Some(why) => line_length(why),
+        None => 0,
     }
-    if n < 10 {
-        return 10;
-    }
-    11
 }
 
 // The lines of a trace, which `out` has room for. `cells` and `values` are lent for the work only, and have room for a row.
@@ -32,13 +34,13 @@ fn print(course: Course, trace: &[u8], cells: &mut [f32], values: &mut [f32], ou
     requires { Printable course trace.now (length cells.old) (length values.old) (length out.old) }
     ensures { out.new ≡ sets out.old 0 (course_lines course trace.now) }
 {
-    let mut at = 0usize;
-    let mut o = 0usize;
+    let mut at = 0;
+    let mut o = 0;
     let mut going = course;
+    // Kept: it counts no index. Rows are taken, as many as there is room for, until none is left.
     while 0 < going.left {
         let went = rows(going, &trace[at..], cells, values, &mut out[o..]);
-        let why = went.refusal;
-        if !why.passes() {
+        if went.refusal.is_some() {
             return;
         }
         if went.rows == 0 {
@@ -68,35 +70,29 @@ fn replay_trace(course: Course, trace: &[u8], out: &mut [u8]) -> Replayed
         × (out.new ≡ wrote out.old (course_text course trace.now)) }
 {
     let is = measured(course, trace);
-    let refusal = is.refusal;
     let lines = is.rows * (course.lanes * 9);
-    let need = lines + reason_length(refusal);
-    if out.len() < need {
-        return Replayed {
-            refusal,
-            need,
-            whole: false,
-        };
+    let need = lines + reason_length(is.refusal);
+    let whole = need <= out.len();
+    if whole {
+        print_all(course, trace, out);
+        reason_line(is.refusal, &mut out[lines..]);
     }
-    print_all(course, trace, out);
-    reason_line(refusal, &mut out[lines..]);
     Replayed {
-        refusal,
+        refusal: is.refusal,
         need,
-        whole: true,
+        whole,
     }
 }
 
 // A file that is refused from the start.
-fn replay_refused(refusal: Refusal, out: &mut [u8]) -> Replayed
-    requires { passes refusal ≡ false }
-    ensures { (result ≡ replayed_of refusal (refused_line refusal) out.old) × (out.new ≡ wrote out.old (refused_line refusal)) }
+fn replay_refused(why: Refusal, out: &mut [u8]) -> Replayed
+    ensures { (result ≡ replayed_of (Some why) (refused_line why) out.old) × (out.new ≡ wrote out.old (refused_line why)) }
 {
-    let need = reason_length(refusal);
+    let need = line_length(why);
     let whole = need <= out.len();
-    refused_line(refusal, out);
+    refused_line(why, out);
     Replayed {
-        refusal,
+        refusal: Some(why),
         need,
         whole,
     }
@@ -108,12 +104,8 @@ pub fn replay(bytes: &[u8], out: &mut [u8]) -> Replayed
     ensures { (result ≡ call_replay bytes.now out.old)
         × (out.new ≡ wrote out.old (replay_of bytes.now)) }
 {
-    let begun = start(bytes);
-    let why = begun.refusal;
-    if !why.passes() {
-        return replay_refused(why, out);
+    match start(bytes) {
+        Ok(begun) => replay_trace(begun.course, &bytes[begun.at..], out),
+        Err(refused) => replay_refused(refused.refusal, out),
     }
-    let course = begun.course;
-    let at = begun.at;
-    replay_trace(course, &bytes[at..], out)
 }

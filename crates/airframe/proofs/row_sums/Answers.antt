@@ -1,28 +1,23 @@
+use Rattle.std.proofs.Common.{rules, ◌≡◌, ◌+◌, ◌<◌, ℕ, List, length, drop, get_or, refl, sym, ◌∙◌}
+use Rattle.std.proofs.lemmas.List.{at_drop_more, at_drop_all}
 use Rattle.airframe.specs.Airframe.{column, add_squares, sums, sums_of}
-use Rattle.airframe.specs.AirframeLaws.{motors_on, motors_end}
 use Rattle.airframe.specs.declared.Motor.{Motor}
 use Rattle.airframe.specs.declared.PerRow.{PerRow}
-use mathlib.Core.List.{List, [], ◌∷◌}
-use mathlib.Core.Path.{◌≡◌, refl}
-use native.Mathlib.Omega.{arith}
 use Rattle.airframe.proofs.row_sums.Goals as goal
 
 -- the sum of all is the sum of the motors that are left, added to what was summed
-module _ (s whole : PerRow) (ms : List Motor) where
-  turn : (rest : List Motor) (m a : Motor) (b d : PerRow) → a ≡ m → b ≡ column a → d ≡ add_squares s b → ms ≡ m ∷ rest → sums s ms ≡ whole → sums d rest ≡ whole
-  unfolding sums
-  turn rest m a b d p q r h i = rw (r, q, p) (rw h at i)
+turn : (s whole : PerRow) (ms : List Motor) (i : ℕ) (m : Motor) (b d : PerRow) → i < length ms → b ≡ column (get_or ms i m) → d ≡ add_squares s b → sums s (drop i ms) ≡ whole
+    → sums d (drop (i + 1) ms) ≡ whole
+unfolding sums
+turn s whole ms i m b d h p q e = rw (q, p) (sym (at_drop_more (sums s) ms i m h) ∙ e)
 
-  ended : ms ≡ [] → sums s ms ≡ whole → s ≡ whole
-  unfolding sums
-  ended h i = rw h at i
-
-pub loop-i-init : goal.loop-i-init
+pub loop-motor-init : goal.loop-motor-init
 unfolding sums_of
-loop-i-init c = (omega arith, refl)
+loop-motor-init c = search rules
 
-pub loop-i-preserved : goal.loop-i-preserved
-loop-i-preserved c = (omega arith, turn _ _ _ _ _ _ _ _ c.read_motor.ensures c.column.ensures c.add_squares-s.ensures (motors_on c.args.motors.now c.loop-i.i c.loop-i-test.true) c.loop-i.invariant.1)
+pub loop-motor-preserved : goal.loop-motor-preserved
+loop-motor-preserved c = turn _ _ _ _ _ _ _ c.loop-motor-test.true c.column.ensures c.add_squares-s.ensures c.loop-motor.invariant
 
 pub returns : goal.returns
-returns c = ended _ _ _ (motors_end c.args.motors.now c.loop-i.i c.loop-i-test.false) c.loop-i.invariant.1
+unfolding sums
+returns c = sym (at_drop_all (sums c.loop-motor.s) _ _ c.loop-motor-test.false) ∙ c.loop-motor.invariant

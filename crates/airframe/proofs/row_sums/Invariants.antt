@@ -1,11 +1,6 @@
-use Rattle.airframe.specs.Airframe.{motors_of, sums, sums_of}
-use mathlib.Core.Path.{◌≡◌}
-use Prim.Native.Nat.{◌≤◌, ◌-◌}
-use lib.ListN.{length, drop}
+use Rattle.std.proofs.Common.{◌≡◌, drop}
+use Rattle.airframe.specs.Airframe.{sums, sums_of}
 use Rattle.airframe.proofs.row_sums.Given as goal
 
-abbrev pub invariant-loop-i : goal.invariant-loop-i
-invariant-loop-i l = (l.i ≤ length l.motors) × (sums l.s (motors_of (drop l.i l.motors)) ≡ sums_of (motors_of l.motors))
-
-abbrev pub decreases-loop-i : goal.decreases-loop-i
-decreases-loop-i l = length l.motors - l.i
+abbrev pub invariant-loop-motor : goal.invariant-loop-motor
+invariant-loop-motor l = sums l.s (drop l.motor-index l.motors) ≡ sums_of l.motors

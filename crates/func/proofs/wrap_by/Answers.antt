@@ -16,12 +16,6 @@ returns-then-steps-eq64 c =
     let a = c.args in
     c.refused.ensures ∙ sym (l.invariant.1 ∙ rise-full (above a.closed a.max) _ _ l.n l.steps c.if-steps-eq64.true c.loop-n-test.true)
 
-pub overflow_add-steps : goal.overflow_add-steps
-overflow_add-steps c = omega arith
-
-pub loop-n-smaller : goal.loop-n-smaller
-loop-n-smaller c = omega arith
-
 pub loop-n-preserved : goal.loop-n-preserved
 loop-n-preserved c =
     let l = c.loop-n in
@@ -40,12 +34,6 @@ returns-then-steps-eq64-2 c =
     let a = c.args in
     let over = sym c.above.ensures ∙ c.loop-num-test.true in
     c.refused-then-steps-eq64-2.ensures ∙ sym (l.invariant.1 ∙ fall-full (above a.closed a.max) _ l.n l.steps c.if-steps-eq64-2.true over)
-
-pub overflow_add-steps-in-loop-num : goal.overflow_add-steps-in-loop-num
-overflow_add-steps-in-loop-num c = omega arith
-
-pub loop-num-smaller : goal.loop-num-smaller
-loop-num-smaller c = omega arith
 
 pub loop-num-preserved : goal.loop-num-preserved
 loop-num-preserved c =

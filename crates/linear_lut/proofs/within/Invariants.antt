@@ -1,10 +1,7 @@
 use Rattle.linear_lut.specs.LinearLut.{within}
 use mathlib.Core.Path.{◌≡◌}
-use Prim.Native.Nat.{◌≤◌, ◌-◌}
+use Prim.Native.Nat.{◌-◌}
 use Rattle.linear_lut.proofs.within.Given as goal
 
 abbrev pub invariant-loop-i : goal.invariant-loop-i
-invariant-loop-i l = (l.i ≤ l.last) × (within l.points l.last 0 l.x ≡ within l.points (l.last - l.i) l.i l.x)
-
-abbrev pub decreases-loop-i : goal.decreases-loop-i
-decreases-loop-i l = l.last - l.i
+invariant-loop-i l = within l.points l.i-end 0 l.x ≡ within l.points (l.i-end - l.i) l.i l.x

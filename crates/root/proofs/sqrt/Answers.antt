@@ -1,14 +1,8 @@
-use mathlib.Core.Path.{◌≡◌, sym, subst}
-use mathlib.Core.Bool.{true}
-use lib.Dec.{T}
-use lib.Ieee.{Float, binary32, fits, to_bits}
+use lib.Ieee.{binary32, to_bits}
 use Rattle.root.specs.Values.{no_sign, some_bits}
 use Rattle.root.proofs.Assemble.{normal-parts}
+use Rattle.root.proofs.Ties.{held}
 use Rattle.root.proofs.sqrt.Goals as goal
-
--- what owning an `f32` tells: the format holds it
-held : (x : Float) → fits binary32 x ≡ true → T (fits binary32 x)
-held x e = subst T (sym e) tt
 
 pub subnormal_parts-requires : goal.subnormal_parts-requires
 subnormal_parts-requires c = (some_bits c.args.x (held _ c.well_formed.0.1) c.if-x.true, c.if-b-lt8388608.true)

@@ -1,32 +1,20 @@
-use mathlib.Core.Path.{◌≡◌, refl}
-use native.Mathlib.Omega.{arith}
+use Rattle.std.specs.Prelude.{Float}
+use Rattle.std.proofs.Common.{◌≡◌, ℕ, ◌-◌, ◌≤◌, List, ◌++◌, length, take, drop}
+use Rattle.std.proofs.Math.ListN.{replicate}
+use Rattle.std.proofs.lemmas.List.{drop-replicate, length-replicate, length-take-le}
+use Rattle.float.specs.F32 as F
 use Rattle.filters.specs.MovingAverage.{new_with_value_moving_average}
-use Rattle.filters.proofs.Turns.{fill_turn}
 use Rattle.filters.proofs.moving_average.filled.Goals as goal
 
-pub loop-i-init : goal.loop-i-init
-loop-i-init c = (omega arith, refl)
-
-pub offset_bounds-slots-i : goal.offset_bounds-slots-i
-offset_bounds-slots-i c = omega arith
-
-pub bounds-slots-i : goal.bounds-slots-i
-bounds-slots-i c = omega arith
-
-pub overflow_add-i : goal.overflow_add-i
-overflow_add-i c = omega arith
-
-pub loop-i-smaller : goal.loop-i-smaller
-loop-i-smaller c = omega arith
-
-pub loop-i-preserved : goal.loop-i-preserved
-loop-i-preserved c =
-    let l = c.loop-i in
-    (omega arith, rw l.invariant.1 (fill_turn l.i _ (omega arith)))
+-- the first slots are filled, and the rest are as they were
+filled_slots : (all n : ℕ) (v z : Float) (front : List Float) → n ≤ all → front ≡ replicate (length (take n (replicate all z))) v → front ++ drop n (replicate all z) ≡ replicate n v ++ replicate (all - n) z
+filled_slots all n v z front h e =
+    let k : n ≤ length (replicate all z) = rw length-replicate h in
+    rw (e, length-take-le n (replicate all z) k, drop-replicate n all z)
 
 pub returns : goal.returns
 unfolding new_with_value_moving_average
 returns c =
-    let l = c.loop-i in
-    let e : l.i ≡ c.args.length = omega arith in
+    let a = c.args in
+    let e = filled_slots 16 a.length a.value F.zero c.fill.new.self c.requires (c.fill.ensures.after (λ y h. h)) in
     cc

@@ -1,12 +1,12 @@
-use Rattle.npy.specs.HeaderLaws.{no_width, by_width, width_small}
-use mathlib.Core.Path.{◌∙◌}
+use Rattle.std.proofs.Common.{◌∙◌}
+use Rattle.npy.specs.HeaderLaws.{no_known_width, by_known_width}
 use Rattle.npy.proofs.reader.header.Goals as goal
 
-pub returns-then-w-eq0 : goal.returns-then-w-eq0
-returns-then-w-eq0 c = c.refused.ensures ∙ no_width _ _ c.length_width-w.ensures c.if-w-eq0.true
-
 pub header_w-requires : goal.header_w-requires
-header_w-requires c = rw c.length_width-w.ensures (width_small c.args.bytes.now)
+header_w-requires c = (by_known_width _ _ c.in-Some.ensures).0
 
-pub returns : goal.returns
-returns c = c.header_w.ensures ∙ by_width _ _ c.length_width-w.ensures c.if-w-eq0.false
+pub returns-in-Some : goal.returns-in-Some
+returns-in-Some c = c.header_w.ensures ∙ (by_known_width _ _ c.in-Some.ensures).1
+
+pub returns-in-None : goal.returns-in-None
+returns-in-None c = c.refused.ensures ∙ no_known_width _ c.in-None.ensures

@@ -1,12 +1,12 @@
-use mathlib.Core.Path.{◌∙◌}
-use lib.ListN.{length-set}
-use Rattle.npy.specs.LineMakingLaws.{ends_more, ends_done, ends-room}
+use Rattle.std.proofs.Common.{◌∙◌}
+use Rattle.std.proofs.Math.ListN.{length-set}
+use Rattle.npy.specs.LineMakingLaws.{ends_on, ends_over, ends_fit}
 use Rattle.npy.proofs.writer.end_lines.Goals as goal
 
-pub loop-left-preserved : goal.loop-left-preserved
-loop-left-preserved c =
-    let at = c.loop-left in
-    (ends_more _ _ _ _ c.loop-left-test.true ∙ at.invariant.0, simp length-set at.invariant.1, ends-room _ _ _ _ c.loop-left-test.true at.invariant.2)
+pub loop-line-preserved : goal.loop-line-preserved
+loop-line-preserved c =
+    let at = c.loop-line in
+    (ends_on _ _ _ _ _ c.loop-line-test.true ∙ at.invariant.0, simp length-set at.invariant.1, ends_fit _ _ _ _ _ c.loop-line-test.true at.invariant.2)
 
 pub returns : goal.returns
-returns c = ends_done _ _ _ _ c.loop-left-test.false ∙ c.loop-left.invariant.0
+returns c = ends_over _ _ _ _ _ c.loop-line-test.false ∙ c.loop-line.invariant.0

@@ -1,12 +1,12 @@
-use mathlib.Core.Path.{◌≡◌}
-use Prim.Native.Nat.{◌+◌, ◌*◌, ◌-◌, ◌≤◌}
-use lib.ListN.{length, drop}
-use lib.Seq.{sets}
+use Rattle.std.proofs.Common.{◌≡◌, ◌+◌, ◌*◌, ◌≤◌, length}
+use Rattle.std.proofs.lemmas.List.Edits.{sets}
 use Rattle.npy.specs.LineMaking.{words_of}
 use Rattle.npy.proofs.writer.put_words.Given as goal
 
-abbrev pub invariant-loop-i : goal.invariant-loop-i
-invariant-loop-i l = (sets l.out (l.at + 9 * l.i) (words_of l.after (drop l.i l.values)) ≡ sets l.initial.out l.at (words_of l.after l.values)) × (length l.out ≡ length l.initial.out) × (length l.digits ≡ 128) × (l.i ≤ length l.values)
-
-abbrev pub decreases-loop-i : goal.decreases-loop-i
-decreases-loop-i l = length l.values - l.i
+abbrev pub invariant-loop-part : goal.invariant-loop-part
+invariant-loop-part l = record {
+  more : sets l.out l.o (words_of l.after l.part-iterator.rest.now) ≡ sets l.initial.out l.at (words_of l.after l.values);
+  room : l.o + 9 * length l.part-iterator.rest.now ≤ length l.out;
+  size : l.part-iterator.size ≡ 64;
+  digits : length l.digits ≡ 128;
+}

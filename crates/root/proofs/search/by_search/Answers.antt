@@ -1,16 +1,11 @@
-use mathlib.Core.Path.{◌≡◌, sym, ap, ◌∙◌, subst}
-use mathlib.Core.Bool.{true, not}
+use mathlib.Core.Path.{sym, ap, ◌∙◌, subst}
+use mathlib.Core.Bool.{not}
 use lib.Dec.{T}
-use lib.Ieee.{Float, binary32, fits, of_bits, to_bits, nan_bits}
+use lib.Ieee.{binary32, of_bits, to_bits, nan_bits}
 use Prim.Native.Nat.{ℕ}
-use Rattle.float.specs.FloatLaws.{nan_is}
 use Rattle.root.specs.Values.{no_sign, some_bits}
-use Rattle.root.proofs.Ties.{at_infinity, at_number, at_zero, neither, no_nan}
+use Rattle.root.proofs.Ties.{held, at_infinity, at_number, at_zero, neither, no_nan}
 use Rattle.root.proofs.search.by_search.Goals as goal
-
--- what owning an `f32` tells: the format holds it
-held : (x : Float) → fits binary32 x ≡ true → T (fits binary32 x)
-held x e = subst T (sym e) tt
 
 pub returns-then-b-eq2139095040 : goal.returns-then-b-eq2139095040
 returns-then-b-eq2139095040 c = at_infinity c.args.x (held _ c.well_formed.0.1) c.if-b-eq2139095040.true
@@ -32,4 +27,5 @@ pub returns-then-x-2 : goal.returns-then-x-2
 returns-then-x-2 c = at_zero c.args.x c.if-x-2.true
 
 pub returns : goal.returns
-returns c = sym nan_is ∙ neither c.args.x c.if-x.false c.if-x-2.false
+unfolding of_bits
+returns c = neither c.args.x c.if-x.false c.if-x-2.false

@@ -1,42 +1,36 @@
-use Rattle.npy.specs.HeaderLaws.{at_within}
-use Rattle.trace.specs.StartLaws.{start_refused, start_given, settings_from_lem}
-use native.Mathlib.Omega.{arith}
+use Rattle.std.proofs.Common.{sym, ◌∙◌, arith}
+use Rattle.npy.specs.HeaderLaws.{head_within}
+use Rattle.trace.specs.StartLaws.{start_header_refused, start_misfits, start_header_fits, settings_that_fit}
 use Rattle.trace.proofs.opening.start.Goals as goal
 
-pub header-head-requires : goal.header-head-requires
-header-head-requires c = tt
+pub returns-in-Err : goal.returns-in-Err
+returns-in-Err c = start_header_refused c.args.bytes.now _ _ c.in-Err.ensures c.refused_start.ensures
 
-pub settings_refusal-why-requires : goal.settings_refusal-why-requires
-settings_refusal-why-requires c = rw c.header-head.ensures (at_within c.args.bytes.now)
+pub settings_misfit-requires : goal.settings_misfit-requires
+settings_misfit-requires c = head_within _ _ c.in-Ok.ensures
 
-pub passes-requires : goal.passes-requires
-passes-requires c = tt
-
-pub refused_start-requires : goal.refused_start-requires
-refused_start-requires c = tt
-
-pub returns-then-not-passes : goal.returns-then-not-passes
-returns-then-not-passes c = start_refused _ _ _ _ _ c.header-head.ensures c.settings_refusal-why.ensures c.passes.ensures c.if-not-passes.true c.refused_start.ensures
+pub returns-in-Some : goal.returns-in-Some
+returns-in-Some c = start_misfits c.args.bytes.now _ _ _ c.in-Ok.ensures c.in-Some.ensures c.refused_start-in-Some.ensures
 
 pub slice_bounds-opened-count : goal.slice_bounds-opened-count
-slice_bounds-opened-count c = omega (arith, settings_from_lem c.args.bytes.now _ _ _ c.settings_refusal-why.ensures c.passes.ensures c.if-not-passes.false)
+slice_bounds-opened-count c = head_within _ _ c.in-Ok.ensures
+
+pub slice_bounds-opened-start : goal.slice_bounds-opened-start
+slice_bounds-opened-start c = head_within _ _ c.in-Ok.ensures
 
 pub opened-bank-requires : goal.opened-bank-requires
-opened-bank-requires c = (settings_from_lem c.args.bytes.now _ _ _ c.settings_refusal-why.ensures c.passes.ensures c.if-not-passes.false).few
+opened-bank-requires c = (settings_that_fit c.args.bytes.now _ (sym c.in_default.is ∙ c.settings_misfit.ensures)).few
 
 pub overflow_mul-k : goal.overflow_mul-k
-overflow_mul-k c = omega (arith, settings_from_lem c.args.bytes.now _ _ _ c.settings_refusal-why.ensures c.passes.ensures c.if-not-passes.false)
+overflow_mul-k c = omega (arith, settings_that_fit c.args.bytes.now _ (sym c.in_default.is ∙ c.settings_misfit.ensures))
 
-pub overflow_add-at : goal.overflow_add-at
-overflow_add-at c = omega (arith, settings_from_lem c.args.bytes.now _ _ _ c.settings_refusal-why.ensures c.passes.ensures c.if-not-passes.false)
+pub overflow_add-head : goal.overflow_add-head
+overflow_add-head c = omega (arith, settings_that_fit c.args.bytes.now _ (sym c.in_default.is ∙ c.settings_misfit.ensures))
 
 pub trace_start-requires : goal.trace_start-requires
 trace_start-requires c =
-    let g = settings_from_lem c.args.bytes.now _ _ _ c.settings_refusal-why.ensures c.passes.ensures c.if-not-passes.false in
+    let g = settings_that_fit c.args.bytes.now _ (sym c.in_default.is ∙ c.settings_misfit.ensures) in
     (g.few, g.fits)
 
 pub returns : goal.returns
-returns c = start_given _ _ _ _ _ _ c.header-head.ensures c.settings_refusal-why.ensures c.passes.ensures c.if-not-passes.false c.opened-bank.ensures c.trace_start.ensures
-
-pub slice_bounds-opened-start : goal.slice_bounds-opened-start
-slice_bounds-opened-start c = omega (arith, settings_from_lem c.args.bytes.now _ _ _ c.settings_refusal-why.ensures c.passes.ensures c.if-not-passes.false)
+returns c = start_header_fits c.args.bytes.now _ _ _ c.in-Ok.ensures (sym c.in_default.is ∙ c.settings_misfit.ensures) c.opened-bank.ensures c.trace_start.ensures

@@ -1,14 +1,15 @@
-use Rattle.trace.specs.StartLaws.{trace_refused, trace_started, place-within}
-use native.Mathlib.Omega.{arith}
+use Rattle.std.proofs.Common.{sym, ◌∙◌, arith}
+use Rattle.trace.specs.StartLaws.{trace_header_refused, trace_misfits, trace_header_fits, place-within}
 use Rattle.trace.proofs.opening.trace_start.Goals as goal
 
-pub returns-then-not-passes : goal.returns-then-not-passes
-returns-then-not-passes c = trace_refused _ _ _ _ _ _ _ _ c.header-head.ensures c.trace_refusal-why.ensures c.passes.ensures c.if-not-passes.true c.refused_start.ensures
+pub returns-in-Err : goal.returns-in-Err
+returns-in-Err c = trace_header_refused _ _ _ c.args.bytes.now _ _ c.in-Err.ensures c.refused_start.ensures
 
-pub overflow_add-first : goal.overflow_add-first
-overflow_add-first c =
-    let from = c.args in
-    omega (arith, place-within from.at from.bytes.now _ c.header-head.ensures)
+pub returns-in-Some : goal.returns-in-Some
+returns-in-Some c = trace_misfits _ _ _ c.args.bytes.now _ _ _ c.in-Ok.ensures c.in-Some.ensures c.refused_start-in-Some.ensures
+
+pub overflow_add-result : goal.overflow_add-result
+overflow_add-result c = omega (arith, place-within c.args.at c.args.bytes.now _ c.in-Ok.ensures)
 
 pub returns : goal.returns
-returns c = trace_started _ _ _ _ _ _ _ c.header-head.ensures c.trace_refusal-why.ensures c.passes.ensures c.if-not-passes.false
+returns c = trace_header_fits _ _ _ c.args.bytes.now _ c.in-Ok.ensures (sym c.in_default.is ∙ c.trace_misfit.ensures)

@@ -1,17 +1,11 @@
-use Rattle.refusal.specs.Refusal.{passes}
-use Rattle.angle_pid.proofs.PidLaws.{after-refused, after-settled, update_bad, update_good}
-use mathlib.Core.Path.{sym, ap, ◌∙◌}
+use Rattle.std.proofs.Common.{rules, sym, ◌∙◌}
+use Rattle.angle_pid.specs.Range.{wrap_error}
+use Rattle.angle_pid.specs.Pid.{after_wrap, call_update_ts_pid}
+use Rattle.angle_pid.proofs.Options.{at_option}
 use Rattle.angle_pid.proofs.pid.Pid.update_ts.Goals as goal
 
-pub returns-then-not-passes : goal.returns-then-not-passes
-returns-then-not-passes c = rw c.refusal-why.ensures (sym (update_bad _ _ _ (sym (c.passes.ensures ∙ ap passes c.refusal-why.ensures) ∙ c.if-not-passes.true)))
-
-pub returns-then-not-passes-2 : goal.returns-then-not-passes-2
-returns-then-not-passes-2 c =
-    let good = sym (c.passes.ensures ∙ ap passes c.refusal-why.ensures) ∙ c.if-not-passes.false in
-    sym (update_good _ _ _ good ∙ rw (← c.wrap-wrapped.ensures) (after-refused _ _ _ (sym c.passes-2.ensures ∙ c.if-not-passes-2.true)))
-
-pub returns : goal.returns
-returns c =
-    let good = sym (c.passes.ensures ∙ ap passes c.refusal-why.ensures) ∙ c.if-not-passes.false in
-    sym (update_good _ _ _ good ∙ rw (← c.wrap-wrapped.ensures) (after-settled _ _ _ (sym c.passes-2.ensures ∙ c.if-not-passes-2.false) ∙ rw (← c.step-next.ensures)))
+pub returns-in-Ok : goal.returns-in-Ok
+unfolding call_update_ts_pid after_wrap wrap_error
+returns-in-Ok c =
+    let wrapped = at_option (λ o. wrap_error o c.args.error) c.args.self.wrapping c.map_or.result c.map_or.ensures (λ x h. search rules) in
+    simp (sym c.refusal.ensures ∙ c.in_default.is, sym wrapped ∙ c.in-Ok.is, c.step-next.ensures)

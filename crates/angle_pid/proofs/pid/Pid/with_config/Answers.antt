@@ -1,6 +1,12 @@
-use Rattle.angle_pid.specs.Pid.{config_refusal, with_config_pid, call_with_config_pid}
+use Rattle.std.proofs.Common.{◌≡◌, ap, rules}
+use Rattle.angle_pid.specs.Pid.{zero_pid, with_parts, with_config_pid, unless_refused, call_with_config_pid}
+use Rattle.angle_pid.proofs.PidLaws.{config_parts}
 use Rattle.angle_pid.proofs.pid.Pid.with_config.Goals as goal
 
 pub returns : goal.returns
-unfolding call_with_config_pid config_refusal with_config_pid
-returns c = simp (c.keep.ensures, c.zero.ensures, c.with_parts-next.ensures, c.filter.ensures, c.new-pid.ensures, c.parts_refusal-why.ensures)
+unfolding call_with_config_pid with_config_pid with_parts zero_pid
+returns c =
+    let a = c.args in
+    let zero : c.default.result ≡ zero_pid = search rules in
+    simp (c.keep.ensures, zero, c.refusal.ensures, c.new.ensures, c.new_lp_filter.ensures)
+    (ap (λ why. unless_refused why zero_pid (with_config_pid a.config a.ts)) (config_parts a.config a.ts))

@@ -1,6 +1,0 @@
-use Rattle.angle_pid.specs.Pid.{call_set_anti_windup_pid}
-use Rattle.angle_pid.proofs.pid.Pid.set_anti_windup.Goals as goal
-
-pub returns : goal.returns
-unfolding call_set_anti_windup_pid
-returns c = simp (c.keep.ensures, c.first_refusal.ensures, c.refusal-2.ensures, c.refusal.ensures, c.with_parts-next.ensures)

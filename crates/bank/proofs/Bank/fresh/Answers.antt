@@ -1,6 +1,0 @@
-use Rattle.bank.specs.Bank.{fresh_bank}
-use Rattle.bank.proofs.Bank.fresh.Goals as goal
-
-pub returns : goal.returns
-unfolding fresh_bank
-returns c = cc

@@ -1,6 +1,0 @@
-use Rattle.rate_pid.specs.RatePid.{zero_terms}
-use Rattle.bank.proofs.lane.Lane.plain_step.Goals as goal
-
-pub returns : goal.returns
-unfolding zero_terms
-returns c = cc

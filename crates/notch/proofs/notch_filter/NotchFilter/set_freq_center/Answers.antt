@@ -1,6 +1,0 @@
-use Rattle.notch.specs.NotchFilter.{set_freq_center_notch_filter}
-use Rattle.notch.proofs.notch_filter.NotchFilter.set_freq_center.Goals as goal
-
-pub returns : goal.returns
-unfolding set_freq_center_notch_filter
-returns c = cc

@@ -1,7 +1,0 @@
-use Rattle.rate_pid.proofs.at_least_minus_one.Goals as goal
-
-pub returns-then-x : goal.returns-then-x
-returns-then-x c = simp c.if-x.true
-
-pub returns-else-x : goal.returns-else-x
-returns-else-x c = simp c.if-x.false
