@@ -2,7 +2,7 @@
 #![tactic(auto)]
 
 use bank::{Bank, Called, Lane};
-use calls_words::{Call, Operand, Operands, Reply, Results};
+use calls_words::{Call, Operand, Operands, Reply, Results, leaves};
 use refusal::{Answer, answer_of, given, refusal_of};
 
 pub fn answer(call: Call<'_>, bank: &mut Bank) -> Reply {
@@ -29,28 +29,44 @@ impl Operand for Wanted {
 fn on_bank(call: Call<'_>, bank: &mut Bank) -> Reply {
     let before = *bank;
     match call.name {
-        b"open" => call.leaves(bank, |(lane, (kp, ki, kd), (tau, dt), Wanted(slew))| {
-            nothing(before.open(lane, kp, ki, kd, tau, dt, slew))
-        }),
-        b"close" => call.leaves(bank, |lane| nothing(before.close(lane))),
-        b"update" => call.leaves(bank, |(lane, reference, measurement, prediction)| {
-            replied(
-                before.update(lane, reference, measurement, prediction),
-                |reply| reply.y,
+        b"open" => {
+            let (lane, (kp, ki, kd), (tau, dt), Wanted(slew)) = call.all()?;
+            leaves(bank, nothing(before.open(lane, kp, ki, kd, tau, dt, slew)))
+        }
+        b"close" => {
+            let lane = call.all()?;
+            leaves(bank, nothing(before.close(lane)))
+        }
+        b"update" => {
+            let (lane, reference, measurement, prediction) = call.all()?;
+            leaves(
+                bank,
+                replied(
+                    before.update(lane, reference, measurement, prediction),
+                    |reply| reply.y,
+                ),
             )
-        }),
-        b"set_ts" => call.leaves(bank, |(lane, ts)| nothing(before.set_ts(lane, ts))),
-        b"set_gains" => call.leaves(bank, |(lane, kp, ki, kd)| {
-            nothing(before.set_gains(lane, kp, ki, kd))
-        }),
-        b"enable_integral" => call.leaves(bank, |(lane, enable)| {
-            nothing(before.enable_integral(lane, enable))
-        }),
-        b"reset_integral" => call.leaves(bank, |lane| nothing(before.reset_integral(lane))),
-        b"terms" => call.leaves(
-            bank,
-            |lane| replied(before.terms(lane), |reply| reply.terms),
-        ),
+        }
+        b"set_ts" => {
+            let (lane, ts) = call.all()?;
+            leaves(bank, nothing(before.set_ts(lane, ts)))
+        }
+        b"set_gains" => {
+            let (lane, kp, ki, kd) = call.all()?;
+            leaves(bank, nothing(before.set_gains(lane, kp, ki, kd)))
+        }
+        b"enable_integral" => {
+            let (lane, enable) = call.all()?;
+            leaves(bank, nothing(before.enable_integral(lane, enable)))
+        }
+        b"reset_integral" => {
+            let lane = call.all()?;
+            leaves(bank, nothing(before.reset_integral(lane)))
+        }
+        b"terms" => {
+            let lane = call.all()?;
+            leaves(bank, replied(before.terms(lane), |reply| reply.terms))
+        }
         b"show" => show(call, bank),
         b"state" => set(call, bank),
         _ => None,

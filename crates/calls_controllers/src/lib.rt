@@ -2,7 +2,7 @@
 #![tactic(auto)]
 
 use angle_pid::{Pid, PidUpdated};
-use calls_words::{Call, Reply};
+use calls_words::{Call, Reply, answers, leaves, sets};
 use rate_pid::{RatePid, Updated};
 use refusal::{Answer, answer_of, given, refusal_of};
 
@@ -28,23 +28,58 @@ impl Controllers {
 fn on_pid(call: Call<'_>, pid: &mut Pid) -> Reply {
     let before = *pid;
     match call.name {
-        b"new" => call.sets(pid, |((kp, ki, kd), ideal, ts)| {
-            Ok(Pid::new(kp, ki, kd, ideal, ts))
-        }),
-        b"with_config" => call.sets(pid, |(config, ts)| Pid::with_config(config, ts)),
-        b"set_wrapping" => call.sets(pid, |(min, max)| before.set_wrapping(min, max)),
-        b"set_output_limit" => call.sets(pid, |(min, max)| before.set_output_limit(min, max)),
-        b"set_anti_windup" => call.sets(pid, |(min, max)| before.set_anti_windup(min, max)),
-        b"set_lp_filter" => call.sets(pid, |tau| before.set_lp_filter(tau)),
-        b"set_gains" => call.sets(pid, |(kp, ki, kd)| before.set_gains(kp, ki, kd)),
-        b"reset_integral" => call.sets(pid, |()| before.reset_integral()),
-        b"reset_integral_to" => call.sets(pid, |integral| before.reset_integral_to(integral)),
-        b"enable_integral" => call.sets(pid, |enable| before.enable_integral(enable)),
-        b"enable_reset_integral" => call.sets(pid, |enable| before.enable_reset_integral(enable)),
-        b"update" => call.leaves(pid, |error| value_and_steps(before.update(error))),
-        b"update_ts" => call.leaves(pid, |(error, ts)| {
-            value_and_steps(before.update_ts(error, ts))
-        }),
+        b"new" => {
+            let ((kp, ki, kd), ideal, ts) = call.all()?;
+            sets(pid, Ok(Pid::new(kp, ki, kd, ideal, ts)))
+        }
+        b"with_config" => {
+            let (config, ts) = call.all()?;
+            sets(pid, Pid::with_config(config, ts))
+        }
+        b"set_wrapping" => {
+            let (min, max) = call.all()?;
+            sets(pid, before.set_wrapping(min, max))
+        }
+        b"set_output_limit" => {
+            let (min, max) = call.all()?;
+            sets(pid, before.set_output_limit(min, max))
+        }
+        b"set_anti_windup" => {
+            let (min, max) = call.all()?;
+            sets(pid, before.set_anti_windup(min, max))
+        }
+        b"set_lp_filter" => {
+            let tau = call.all()?;
+            sets(pid, before.set_lp_filter(tau))
+        }
+        b"set_gains" => {
+            let (kp, ki, kd) = call.all()?;
+            sets(pid, before.set_gains(kp, ki, kd))
+        }
+        b"reset_integral" => {
+            let () = call.all()?;
+            sets(pid, before.reset_integral())
+        }
+        b"reset_integral_to" => {
+            let integral = call.all()?;
+            sets(pid, before.reset_integral_to(integral))
+        }
+        b"enable_integral" => {
+            let enable = call.all()?;
+            sets(pid, before.enable_integral(enable))
+        }
+        b"enable_reset_integral" => {
+            let enable = call.all()?;
+            sets(pid, before.enable_reset_integral(enable))
+        }
+        b"update" => {
+            let error = call.all()?;
+            leaves(pid, value_and_steps(before.update(error)))
+        }
+        b"update_ts" => {
+            let (error, ts) = call.all()?;
+            leaves(pid, value_and_steps(before.update_ts(error, ts)))
+        }
         _ => call.by_hand(pid),
     }
 }
@@ -58,22 +93,52 @@ fn value_and_steps(answer: Answer<PidUpdated>) -> (Answer<(f32, u32)>, Pid) {
 fn on_rate_pid(call: Call<'_>, pid: &mut RatePid) -> Reply {
     let before = *pid;
     match call.name {
-        b"new" => call.sets(pid, |(kp, ki, kd, (tau, dt))| {
-            Ok(RatePid::new(kp, ki, kd, tau, dt))
-        }),
-        b"slew" => call.sets(pid, |limit| before.slew(limit)),
-        b"set_ts" => call.sets(pid, |ts| before.set_ts(ts)),
-        b"set_gains" => call.sets(pid, |(kp, ki, kd)| before.set_gains(kp, ki, kd)),
-        b"enable_integral" => call.sets(pid, |enable| before.enable_integral(enable)),
-        b"reset_integral" => call.sets(pid, |()| before.reset_integral()),
-        b"enable_reset_integral" => call.sets(pid, |enable| before.enable_reset_integral(enable)),
-        b"update" => call.leaves(pid, |(reference, measurement, prediction)| {
-            value(before.update(reference, measurement, prediction))
-        }),
-        b"update_in_place" => call.leaves(pid, |(reference, measurement, prediction)| {
-            value(rate_pid_in_place::update(before, reference, measurement, prediction))
-        }),
-        b"get_terms" => call.answers(|()| before.get_terms()),
+        b"new" => {
+            let (kp, ki, kd, (tau, dt)) = call.all()?;
+            sets(pid, Ok(RatePid::new(kp, ki, kd, tau, dt)))
+        }
+        b"slew" => {
+            let limit = call.all()?;
+            sets(pid, before.slew(limit))
+        }
+        b"set_ts" => {
+            let ts = call.all()?;
+            sets(pid, before.set_ts(ts))
+        }
+        b"set_gains" => {
+            let (kp, ki, kd) = call.all()?;
+            sets(pid, before.set_gains(kp, ki, kd))
+        }
+        b"enable_integral" => {
+            let enable = call.all()?;
+            sets(pid, before.enable_integral(enable))
+        }
+        b"reset_integral" => {
+            let () = call.all()?;
+            sets(pid, before.reset_integral())
+        }
+        b"enable_reset_integral" => {
+            let enable = call.all()?;
+            sets(pid, before.enable_reset_integral(enable))
+        }
+        b"update" => {
+            let (reference, measurement, prediction) = call.all()?;
+            leaves(
+                pid,
+                value(before.update(reference, measurement, prediction)),
+            )
+        }
+        b"update_in_place" => {
+            let (reference, measurement, prediction) = call.all()?;
+            leaves(
+                pid,
+                value(rate_pid_in_place::update(before, reference, measurement, prediction)),
+            )
+        }
+        b"get_terms" => {
+            let () = call.all()?;
+            answers(before.get_terms())
+        }
         _ => call.by_hand(pid),
     }
 }

@@ -4,23 +4,29 @@
 mod rates_calls;
 
 use arrayvec::ArrayVec;
-use calls_words::{Call, Reply};
+use calls_words::{Call, Reply, answers};
 
 // More points than a line has room for.
 const POINTS: usize = 224;
 
 pub fn answer(call: Call<'_>) -> Reply {
     match call.name {
-        b"linear_lut" => call.answers(|(x, points): (f32, ArrayVec<f32, POINTS>)| {
-            linear_lut::get(points.as_slice(), x)
-        }),
-        b"quad_x_basic" => call.answers(|(x_dist, y_dist, reaction, outspin)| {
-            airframe::quad_x_basic(x_dist, y_dist, reaction, outspin)
-        }),
-        b"quad_p_basic" => call.answers(|(x_dist, y_dist, reaction, outspin)| {
-            airframe::quad_p_basic(x_dist, y_dist, reaction, outspin)
-        }),
-        b"dev_quad_motor_setup" => call.answers(|()| airframe::dev_quad_motor_setup()),
+        b"linear_lut" => {
+            let (x, points): (f32, ArrayVec<f32, POINTS>) = call.all()?;
+            answers(linear_lut::get(points.as_slice(), x))
+        }
+        b"quad_x_basic" => {
+            let (x_dist, y_dist, reaction, outspin) = call.all()?;
+            answers(airframe::quad_x_basic(x_dist, y_dist, reaction, outspin))
+        }
+        b"quad_p_basic" => {
+            let (x_dist, y_dist, reaction, outspin) = call.all()?;
+            answers(airframe::quad_p_basic(x_dist, y_dist, reaction, outspin))
+        }
+        b"dev_quad_motor_setup" => {
+            let () = call.all()?;
+            answers(airframe::dev_quad_motor_setup())
+        }
         _ => rates_calls::answer(call),
     }
 }

@@ -1,5 +1,5 @@
 // Curves: crate rates.
-use calls_words::{Call, Reply};
+use calls_words::{Call, Reply, gives};
 use rates::expo_rates::{ExpoRates, RatesType};
 use rates::linear::Linear;
 use rates::rates as curve;
@@ -17,25 +17,39 @@ pub(crate) fn answer(call: Call<'_>) -> Reply {
 
 fn of_rates(call: Call<'_>) -> Reply {
     match call.name {
-        b"identity" => call.gives(|v| Rates::Identity.apply(v)),
-        b"actual" => {
-            call.gives(|(rate, expo, cent, v)| Rates::Actual { rate, expo, cent }.apply(v))
+        b"identity" => {
+            let v = call.all()?;
+            gives(Rates::Identity.apply(v))
         }
-        b"linear" => call.gives(|(fact, offs, v)| Rates::Linear { fact, offs }.apply(v)),
-        b"actual_default" => call.gives(|()| {
+        b"actual" => {
+            let (rate, expo, cent, v) = call.all()?;
+            gives(Rates::Actual { rate, expo, cent }.apply(v))
+        }
+        b"linear" => {
+            let (fact, offs, v) = call.all()?;
+            gives(Rates::Linear { fact, offs }.apply(v))
+        }
+        b"actual_default" => {
+            let () = call.all()?;
             let actual = Actual::default();
-            (actual.rate, actual.expo, actual.cent)
-        }),
-        b"linear_default" => call.gives(|()| line_of(curve::Linear::default())),
-        b"linear_new" => call.gives(|(in_min, in_max, out_min, out_max)| {
-            line_of(curve::Linear::new(in_min, in_max, out_min, out_max))
-        }),
-        b"linear_set" => call.gives(|(in_min, in_max, out_min, out_max)| {
-            line_of(curve::Linear::default().set(in_min, in_max, out_min, out_max))
-        }),
-        b"linear_set_params" => call.gives(|(in_min, in_max, out_min, out_max)| {
-            line_of(curve::Linear::default().set_params(in_min, in_max, out_min, out_max))
-        }),
+            gives((actual.rate, actual.expo, actual.cent))
+        }
+        b"linear_default" => {
+            let () = call.all()?;
+            gives(line_of(curve::Linear::default()))
+        }
+        b"linear_new" => {
+            let (in_min, in_max, out_min, out_max) = call.all()?;
+            gives(line_of(curve::Linear::new(in_min, in_max, out_min, out_max)))
+        }
+        b"linear_set" => {
+            let (in_min, in_max, out_min, out_max) = call.all()?;
+            gives(line_of(curve::Linear::default().set(in_min, in_max, out_min, out_max)))
+        }
+        b"linear_set_params" => {
+            let (in_min, in_max, out_min, out_max) = call.all()?;
+            gives(line_of(curve::Linear::default().set_params(in_min, in_max, out_min, out_max)))
+        }
         _ => None,
     }
 }
@@ -46,33 +60,45 @@ fn line_of(line: curve::Linear) -> (f32, f32) {
 
 fn of_expo_rates(call: Call<'_>) -> Reply {
     match call.name {
-        b"default" => call.gives(|()| {
+        b"default" => {
+            let () = call.all()?;
             let rates = ExpoRates::default();
-            (rates.expo, rates.max_rates, rates.center_sens)
-        }),
-        b"actual" => call.gives(|(expo, max_rates, center_sens, v)| {
-            ExpoRates::new(RatesType::Actual, expo, max_rates, center_sens).apply(v)
-        }),
-        b"kiss" => call.gives(|(expo, max_rates, center_sens, v)| {
-            ExpoRates::new(RatesType::Kiss, expo, max_rates, center_sens).apply(v)
-        }),
+            gives((rates.expo, rates.max_rates, rates.center_sens))
+        }
+        b"actual" => {
+            let (expo, max_rates, center_sens, v) = call.all()?;
+            gives(ExpoRates::new(RatesType::Actual, expo, max_rates, center_sens).apply(v))
+        }
+        b"kiss" => {
+            let (expo, max_rates, center_sens, v) = call.all()?;
+            gives(ExpoRates::new(RatesType::Kiss, expo, max_rates, center_sens).apply(v))
+        }
         _ => None,
     }
 }
 
 fn of_linear(call: Call<'_>) -> Reply {
     match call.name {
-        b"default" => call.gives(|()| params_of(Linear::default())),
-        b"new" => call.gives(|(in_min, in_max, out_min, out_max)| {
-            params_of(Linear::new(in_min, in_max, out_min, out_max))
-        }),
-        b"set" => call.gives(|(in_min, in_max, out_min, out_max)| {
-            params_of(Linear::default().set(in_min, in_max, out_min, out_max))
-        }),
-        b"set_params" => call.gives(|(in_min, in_max, out_min, out_max)| {
-            params_of(Linear::default().set_params(in_min, in_max, out_min, out_max))
-        }),
-        b"map" => call.gives(|(factor, offset, sig)| Linear { factor, offset }.map(sig)),
+        b"default" => {
+            let () = call.all()?;
+            gives(params_of(Linear::default()))
+        }
+        b"new" => {
+            let (in_min, in_max, out_min, out_max) = call.all()?;
+            gives(params_of(Linear::new(in_min, in_max, out_min, out_max)))
+        }
+        b"set" => {
+            let (in_min, in_max, out_min, out_max) = call.all()?;
+            gives(params_of(Linear::default().set(in_min, in_max, out_min, out_max)))
+        }
+        b"set_params" => {
+            let (in_min, in_max, out_min, out_max) = call.all()?;
+            gives(params_of(Linear::default().set_params(in_min, in_max, out_min, out_max)))
+        }
+        b"map" => {
+            let (factor, offset, sig) = call.all()?;
+            gives(Linear { factor, offset }.map(sig))
+        }
         _ => None,
     }
 }

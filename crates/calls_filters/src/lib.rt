@@ -1,7 +1,7 @@
 // The filters: crate filters.
 #![tactic(auto)]
 
-use calls_words::{Call, Operand, Reply, Shown};
+use calls_words::{Call, Operand, Reply, Shown, sets, steps};
 use filters::{
     Complementary, Highpass, IntegratingComplementary, IntegratingHighpass, Lowpass, MovingAverage,
     NthOrderLowpass, SlewRate,
@@ -105,12 +105,22 @@ fn on_filter<
     let before = *filter;
     let (sets_tau, set_tau) = set_tau;
     if call.name == sets_tau {
-        return call.sets(filter, |tau| Ok(set_tau(before, tau)));
+        let tau = call.all()?;
+        return sets(filter, Ok(set_tau(before, tau)));
     }
     match call.name {
-        b"new" => call.sets(filter, |(tau, dt)| Ok(new(tau, dt))),
-        b"set_dt" => call.sets(filter, |dt| Ok(set_dt(before, dt))),
-        b"update" => call.steps(filter, |x| Ok(update(before, x))),
+        b"new" => {
+            let (tau, dt) = call.all()?;
+            sets(filter, Ok(new(tau, dt)))
+        }
+        b"set_dt" => {
+            let dt = call.all()?;
+            sets(filter, Ok(set_dt(before, dt)))
+        }
+        b"update" => {
+            let x = call.all()?;
+            steps(filter, Ok(update(before, x)))
+        }
         _ => call.by_hand(filter),
     }
 }
@@ -118,11 +128,15 @@ fn on_filter<
 fn on_moving_average(call: Call<'_>, filter: &mut MovingAverage) -> Reply {
     let before = *filter;
     match call.name {
-        b"new" => call.sets(filter, MovingAverage::new),
-        b"new_with_value" => call.sets(filter, |(length, value)| {
-            MovingAverage::new_with_value(length, value)
-        }),
-        b"update" => call.steps(filter, |value| before.update(value)),
+        b"new" => sets(filter, MovingAverage::new(call.all()?)),
+        b"new_with_value" => {
+            let (length, value) = call.all()?;
+            sets(filter, MovingAverage::new_with_value(length, value))
+        }
+        b"update" => {
+            let value = call.all()?;
+            steps(filter, before.update(value))
+        }
         _ => call.by_hand(filter),
     }
 }
@@ -130,9 +144,18 @@ fn on_moving_average(call: Call<'_>, filter: &mut MovingAverage) -> Reply {
 fn on_slew_rate(call: Call<'_>, filter: &mut SlewRate) -> Reply {
     let before = *filter;
     match call.name {
-        b"new" => call.sets(filter, |(limit, dt)| SlewRate::new(limit, dt)),
-        b"set_dt" => call.sets(filter, |dt| before.set_dt(dt)),
-        b"update" => call.steps(filter, |input| before.update(input)),
+        b"new" => {
+            let (limit, dt) = call.all()?;
+            sets(filter, SlewRate::new(limit, dt))
+        }
+        b"set_dt" => {
+            let dt = call.all()?;
+            sets(filter, before.set_dt(dt))
+        }
+        b"update" => {
+            let input = call.all()?;
+            steps(filter, before.update(input))
+        }
         _ => call.by_hand(filter),
     }
 }

@@ -1,7 +1,7 @@
 // The motor curve, and mean and variance: crates motor_lin and statistics.
 #![tactic(auto)]
 
-use calls_words::{Call, Reply};
+use calls_words::{Call, Reply, answers, sets};
 use motor_lin::MotorLin;
 use statistics::Statistics;
 
@@ -27,11 +27,26 @@ impl MotorStatistics {
 fn on_motor_lin(call: Call<'_>, motor: &mut MotorLin) -> Reply {
     let before = *motor;
     match call.name {
-        b"new" => call.sets(motor, |(a, b, min, max)| MotorLin::new(a, b, min, max)),
-        b"command_to_force" => call.answers(|command| before.command_to_force(command)),
-        b"force_to_command" => call.answers(|force| before.force_to_command(force)),
-        b"min_force" => call.answers(|()| before.min_force()),
-        b"max_force" => call.answers(|()| before.max_force()),
+        b"new" => {
+            let (a, b, min, max) = call.all()?;
+            sets(motor, MotorLin::new(a, b, min, max))
+        }
+        b"command_to_force" => {
+            let command = call.all()?;
+            answers(before.command_to_force(command))
+        }
+        b"force_to_command" => {
+            let force = call.all()?;
+            answers(before.force_to_command(force))
+        }
+        b"min_force" => {
+            let () = call.all()?;
+            answers(before.min_force())
+        }
+        b"max_force" => {
+            let () = call.all()?;
+            answers(before.max_force())
+        }
         _ => call.by_hand(motor),
     }
 }
@@ -39,10 +54,19 @@ fn on_motor_lin(call: Call<'_>, motor: &mut MotorLin) -> Reply {
 fn on_statistics(call: Call<'_>, statistics: &mut Statistics) -> Reply {
     let before = *statistics;
     match call.name {
-        b"new" => call.sets(statistics, Statistics::new),
-        b"add_sample" => call.sets(statistics, |sample| before.add_sample(sample)),
-        b"mean_var" => call.answers(|()| before.mean_var()),
-        b"std_dev" => call.answers(|()| before.std_dev()),
+        b"new" => sets(statistics, Statistics::new(call.all()?)),
+        b"add_sample" => {
+            let sample = call.all()?;
+            sets(statistics, before.add_sample(sample))
+        }
+        b"mean_var" => {
+            let () = call.all()?;
+            answers(before.mean_var())
+        }
+        b"std_dev" => {
+            let () = call.all()?;
+            answers(before.std_dev())
+        }
         _ => call.by_hand(statistics),
     }
 }

@@ -2,7 +2,7 @@
 #![tactic(auto)]
 
 use arrayvec::ArrayVec;
-use calls_words::{Call, Operand, Operands, Reply, Results};
+use calls_words::{Call, Operand, Operands, Reply, Results, sets, steps};
 use notch::{NotchFilter, Notches};
 use refusal::{answer_of, given, refusal_of};
 
@@ -28,23 +28,39 @@ impl NotchStates {
 fn on_notch(call: Call<'_>, notch: &mut NotchFilter) -> Reply {
     let before = *notch;
     match call.name {
-        b"new" => call.sets(notch, |settings| Ok(notch_of(settings))),
-        b"set_freq_center" => call.sets(notch, |(fc, t)| Ok(before.set_freq_center(fc, t))),
-        b"set_freq_bandwidth" => call.sets(notch, |fb| Ok(before.set_freq_bandwidth(fb))),
-        b"update" => call.steps(notch, |input| Ok(before.update(input))),
+        b"new" => {
+            let settings = call.all()?;
+            sets(notch, Ok(notch_of(settings)))
+        }
+        b"set_freq_center" => {
+            let (fc, t) = call.all()?;
+            sets(notch, Ok(before.set_freq_center(fc, t)))
+        }
+        b"set_freq_bandwidth" => {
+            let fb = call.all()?;
+            sets(notch, Ok(before.set_freq_bandwidth(fb)))
+        }
+        b"update" => {
+            let input = call.all()?;
+            steps(notch, Ok(before.update(input)))
+        }
         _ => call.by_hand(notch),
     }
 }
 
 fn on_notches(call: Call<'_>, notches: &mut Notches) -> Reply {
     match call.name {
-        b"new" => call.sets(notches, |(first, second, third)| {
-            Ok(Notches {
-                first: notch_of(first),
-                second: notch_of(second),
-                third: notch_of(third),
-            })
-        }),
+        b"new" => {
+            let (first, second, third) = call.all()?;
+            sets(
+                notches,
+                Ok(Notches {
+                    first: notch_of(first),
+                    second: notch_of(second),
+                    third: notch_of(third),
+                }),
+            )
+        }
         b"run" => run(call, notches),
         _ => call.by_hand(notches),
     }

@@ -1,21 +1,34 @@
 // The numbers: crates float, root and func.
 #![tactic(auto)]
 
-use calls_words::{Call, Reply};
+use calls_words::{Call, Reply, answers, gives};
 
 pub fn answer(call: Call<'_>) -> Reply {
     match call.name {
-        b"abs" => call.gives(float::abs),
-        b"powi3" => call.gives(float::powi3),
-        b"powi5" => call.gives(float::powi5),
-        b"sqrt" => call.gives(root::sqrt),
-        b"max" => call.gives(|(a, b)| float::max(a, b)),
-        b"min" => call.gives(|(a, b)| float::min(a, b)),
-        b"clamp" => call.gives(|(x, low, high)| float::clamp(x, low, high)),
-        b"wrap" => call.answers(|(x, min, max)| func::wrap(x, min, max)),
-        b"linear_map" => call.gives(|(num, (in_min, in_max), (out_min, out_max))| {
-            func::linear_map(num, in_min, in_max, out_min, out_max)
-        }),
+        b"abs" => gives(float::abs(call.all()?)),
+        b"powi3" => gives(float::powi3(call.all()?)),
+        b"powi5" => gives(float::powi5(call.all()?)),
+        b"sqrt" => gives(root::sqrt(call.all()?)),
+        b"max" => {
+            let (a, b) = call.all()?;
+            gives(float::max(a, b))
+        }
+        b"min" => {
+            let (a, b) = call.all()?;
+            gives(float::min(a, b))
+        }
+        b"clamp" => {
+            let (x, low, high) = call.all()?;
+            gives(float::clamp(x, low, high))
+        }
+        b"wrap" => {
+            let (x, min, max) = call.all()?;
+            answers(func::wrap(x, min, max))
+        }
+        b"linear_map" => {
+            let (num, (in_min, in_max), (out_min, out_max)) = call.all()?;
+            gives(func::linear_map(num, in_min, in_max, out_min, out_max))
+        }
         _ => None,
     }
 }

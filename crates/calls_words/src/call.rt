@@ -4,7 +4,6 @@ use refusal::{Answer, answer_of, given, refusal_of};
 use step::Stepped;
 
 // A name, and what follows it.
-// Kept: its calls ask that their closures may be called, as the language wants it said.
 #[derive(Clone, Copy)]
 pub struct Call<'a> {
     pub name: &'a [u8],
@@ -35,71 +34,52 @@ impl<'a> Call<'a> {
         Some((&name[..dot], call))
     }
 
-    // The reply of a call that cannot be refused.
-    pub fn gives<T: Operand, R: Shown, F: FnOnce(T) -> R>(self, call: F) -> Reply
-        requires { F.IsAlwaysCallable call }
-    {
-        Some(Ok(Results::of(call(self.operands.all()?))))
-    }
-
-    // The reply of a call that can.
-    pub fn answers<T: Operand, R: Shown, F: FnOnce(T) -> Answer<R>>(self, call: F) -> Reply
-        requires { F.IsAlwaysCallable call }
-    {
-        Some(shown(call(self.operands.all()?)))
-    }
-
-    // The reply of a call that leaves a state, which is kept.
-    pub fn leaves<T: Operand, R: Shown, S: Drop, F: FnOnce(T) -> (Answer<R>, S)>(
-        self,
-        state: &mut S,
-        call: F,
-    ) -> Reply
-        requires { F.IsAlwaysCallable call }
-    {
-        let (answer, after) = call(self.operands.all()?);
-        *state = after;
-        Some(shown(answer))
-    }
-
-    // The same of a constructor or a setter, which has no other results.
-    pub fn sets<T: Operand, S: Copy, F: FnOnce(T) -> Answer<S>>(
-        self,
-        state: &mut S,
-        call: F,
-    ) -> Reply
-        requires { F.IsAlwaysCallable call }
-    {
-        let answer = call(self.operands.all()?);
-        *state = given(answer);
-        Some(shown(answer_of(refusal_of(&answer), ())))
-    }
-
-    // The same of a step.
-    pub fn steps<T: Operand, S: Copy, F: FnOnce(T) -> Answer<Stepped<S>>>(
-        self,
-        state: &mut S,
-        call: F,
-    ) -> Reply
-        requires { F.IsAlwaysCallable call }
-    {
-        let answer = call(self.operands.all()?);
-        let stepped = given(answer);
-        *state = stepped.state;
-        Some(shown(answer_of(refusal_of(&answer), stepped.y)))
+    // All of the operands as one value.
+    pub fn all<T: Operand>(self) -> Option<T> {
+        self.operands.all()
     }
 
     // The calls that every state has: to show it, and to set it by hand.
     pub fn by_hand<S: Operand + Shown>(self, state: &mut S) -> Reply {
         match self.name {
             b"show" => {
-                let shown = *state;
-                self.gives(|()| shown)
+                let () = self.all()?;
+                gives(*state)
             }
-            b"state" => self.sets(state, |set| Ok(set)),
+            b"state" => sets(state, Ok(self.all()?)),
             _ => None,
         }
     }
+}
+
+// The reply of a call that cannot be refused.
+pub fn gives<R: Shown>(results: R) -> Reply {
+    Some(Ok(Results::of(results)))
+}
+
+// The reply of a call that can.
+pub fn answers<R: Shown>(answer: Answer<R>) -> Reply {
+    Some(shown(answer))
+}
+
+// The reply of a call that leaves a state, which is kept.
+pub fn leaves<R: Shown, S: Drop>(state: &mut S, called: (Answer<R>, S)) -> Reply {
+    let (answer, after) = called;
+    *state = after;
+    Some(shown(answer))
+}
+
+// The same of a constructor or a setter, which has no other results.
+pub fn sets<S: Copy>(state: &mut S, answer: Answer<S>) -> Reply {
+    *state = given(answer);
+    Some(shown(answer_of(refusal_of(&answer), ())))
+}
+
+// The same of a step.
+pub fn steps<S: Copy>(state: &mut S, answer: Answer<Stepped<S>>) -> Reply {
+    let stepped = given(answer);
+    *state = stepped.state;
+    Some(shown(answer_of(refusal_of(&answer), stepped.y)))
 }
 
 fn shown<R: Shown>(answer: Answer<R>) -> Answer<Results> {

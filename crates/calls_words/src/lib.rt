@@ -10,7 +10,7 @@ mod numbers;
 mod operands;
 mod results;
 
-pub use call::Call;
+pub use call::{Call, answers, gives, leaves, sets, steps};
 pub use operands::Operands;
 pub use results::{Reply, Results};
 
