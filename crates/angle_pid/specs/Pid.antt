@@ -4,7 +4,7 @@ use Rattle.std.specs.Prelude.{Bool, true, false, cond, ◌&&◌, ℕ, Float, Opt
 use Rattle.std.specs.Option.{option_or}
 use Rattle.float.specs.F32 as F
 use Rattle.float.specs.F32.{◌+f◌, ◌-f◌, ◌*f◌, ◌/f◌}
-use Rattle.refusal.specs.Answers.{Answer, answer_of}
+use Rattle.refusal.specs.Answers.{Answer, answer_of, first_refusal}
 use Rattle.refusal.specs.declared.Refusal.{Refusal}
 use Rattle.step.specs.declared.Stepped.{Stepped}
 use Rattle.func.specs.declared.Wrapped.{Wrapped}
@@ -187,22 +187,22 @@ range min max = record { min = min; max = max }
 
 unfoldable pub call_set_wrapping_pid : Pid → Float → Float → Answer Pid
 call_set_wrapping_pid s min max =
-    unless_refused (option_or (pid_refusal s) (range_refusal (Some (range min max)))) s
+    unless_refused (first_refusal (pid_refusal s) (range_refusal (Some (range min max)))) s
     (with_parts s (Some (range min max)) s.output_limit s.anti_windup s.lp_filter)
 
 unfoldable pub call_set_output_limit_pid : Pid → Float → Float → Answer Pid
 call_set_output_limit_pid s min max =
-    unless_refused (option_or (pid_refusal s) (range_refusal (Some (range min max)))) s
+    unless_refused (first_refusal (pid_refusal s) (range_refusal (Some (range min max)))) s
     (with_parts s s.wrapping (Some (range min max)) s.anti_windup s.lp_filter)
 
 unfoldable pub call_set_anti_windup_pid : Pid → Float → Float → Answer Pid
 call_set_anti_windup_pid s min max =
-    unless_refused (option_or (pid_refusal s) (range_refusal (Some (range min max)))) s
+    unless_refused (first_refusal (pid_refusal s) (range_refusal (Some (range min max)))) s
     (with_parts s s.wrapping s.output_limit (Some (range min max)) s.lp_filter)
 
 unfoldable pub call_set_lp_filter_pid : Pid → Float → Answer Pid
 call_set_lp_filter_pid s tau =
-    unless_refused (option_or (pid_refusal s) (tau_refusal (Some tau))) s
+    unless_refused (first_refusal (pid_refusal s) (tau_refusal (Some tau))) s
     (with_parts s s.wrapping s.output_limit s.anti_windup (new_lp_filter (Some tau) s.ts))
 
 -- `set_gains` ignores `ideal`.

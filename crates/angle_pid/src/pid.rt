@@ -1,6 +1,6 @@
 // The controller. Every call on it, when it was built by hand too, checks its ranges and its low pass's tau first.
 ghost use Rattle.std.specs.Prelude.{◌≡◌, Some};
-ghost use Rattle.std.specs.Option.{option_or};
+ghost use Rattle.refusal.specs.Answers.{first_refusal};
 ghost use Rattle.angle_pid.specs.declared.pid.Pid.{Pid};
 ghost use Rattle.angle_pid.specs.Range.{range_refusal, shifted};
 ghost use Rattle.angle_pid.specs.Pid.{range, pid_refusal, ideal_gain, grown, step_pid, unless_refused, new_pid, call_with_config_pid, call_set_wrapping_pid, call_set_output_limit_pid, call_set_anti_windup_pid, call_set_lp_filter_pid, call_set_gains_pid, call_reset_integral_pid, call_reset_integral_to_pid, call_enable_integral_pid, call_enable_reset_integral_pid, call_update_ts_pid, call_update_pid};
@@ -123,9 +123,10 @@ impl Pid {
     }
 
     // The answer of a setter that puts this range into one of its three places.
+    #[tactic(auto, using(crate::proofs::Options::or_is_first))]
     fn set_range<F: FnOnce(Option<Range>) -> Pid>(self, min: f32, max: f32, put: F) -> Answer<Self>
         requires { F.IsAlwaysCallable put }
-        ensures { (next : Pid) × F.post put (Some (range min max)) next × (result ≡ unless_refused (option_or (pid_refusal self) (range_refusal (Some (range min max)))) self next) }
+        ensures { (next : Pid) × F.post put (Some (range min max)) next × (result ≡ unless_refused (first_refusal (pid_refusal self) (range_refusal (Some (range min max)))) self next) }
     {
         let range = Range { min, max };
         self.keep(self.refusal().or(range.refusal()), put(Some(range)))
@@ -166,7 +167,7 @@ impl Pid {
         )
     }
 
-    #[tactic(auto, unfolding(crate::specs::Pid::call_set_lp_filter_pid, crate::specs::Pid::with_parts))]
+    #[tactic(auto, using(crate::proofs::Options::or_is_first), unfolding(crate::specs::Pid::call_set_lp_filter_pid, crate::specs::Pid::with_parts))]
     pub fn set_lp_filter(self, tau: f32) -> Answer<Self>
         ensures { result ≡ call_set_lp_filter_pid self tau }
     {

@@ -91,7 +91,7 @@ impl Replay<'_, '_> {
 
     // A refused start or row: its refusal's line.
     fn refuse(&mut self, why: Refusal) -> Result<(), Failed> {
-        let n = trace::refused_line(why, self.text);
+        let n = trace::refused_line(Some(why), self.text);
         self.write_last(n)
     }
 

@@ -7,8 +7,7 @@ use Rattle.std.proofs.lemmas.Bool.{lt-leb}
 use Rattle.std.proofs.Math.ListN.{length}
 use Rattle.std.proofs.lemmas.List.Edits.{sets, sets-eq}
 use Rattle.refusal.specs.declared.Refusal.{Refusal}
-use Rattle.refusal.specs.Refusal.{number_of}
-use Rattle.refusal.specs.Answers.{passes}
+use Rattle.refusal.specs.Answers.{passes, refusal_number}
 use Rattle.trace.specs.Trace.{in_decimal, refused_word, refused_line, reason_text}
 use Rattle.trace.specs.Slices.{wrote, wrote_count}
 
@@ -42,15 +41,15 @@ wrote_front out text m h e =
 
 -- ---- `refused N`
 
-pub one_digit : (why : Refusal) (n : ℕ) → n ≡ number_of why → n < 10 → refused_line why ≡ refused_word ++ ((n + 48) ∷ 10 ∷ [])
+pub one_digit : (why : Option Refusal) (n : ℕ) → n ≡ refusal_number why → n < 10 → refused_line why ≡ refused_word ++ ((n + 48) ∷ 10 ∷ [])
 unfolding refused_line in_decimal
 one_digit why n e h = rw (← e, lt-ltb n 10 h)
 
-pub two_digits : (why : Refusal) (n : ℕ) → n ≡ number_of why → 10 ≤ n → refused_line why ≡ refused_word ++ ((n / 10 + 48) ∷ (n % 10 + 48) ∷ 10 ∷ [])
+pub two_digits : (why : Option Refusal) (n : ℕ) → n ≡ refusal_number why → 10 ≤ n → refused_line why ≡ refused_word ++ ((n / 10 + 48) ∷ (n % 10 + 48) ∷ 10 ∷ [])
 unfolding refused_line in_decimal
 two_digits why n e h = rw (← e, le-ltb n 10 h)
 
-module _ (why : Refusal) (n : ℕ) (e : n ≡ number_of why) (out : List ℕ) where
+module _ (why : Option Refusal) (n : ℕ) (e : n ≡ refusal_number why) (out : List ℕ) where
   pub one_digit_short : n < 10 → length out < 10 → (0 ≡ wrote_count out (refused_line why)) × (out ≡ wrote out (refused_line why))
   one_digit_short h g = rw (one_digit why n e h) (wrote_none out (refused_word ++ ((n + 48) ∷ 10 ∷ [])) g)
 
@@ -71,7 +70,7 @@ none_text : (why : Option Refusal) → passes why ≡ true → reason_text why �
 none_text None h = refl
 none_text (Some why) h = absurd (true≢false (sym h))
 
-some_text : (why : Option Refusal) → passes why ≡ false → (refusal : Refusal) × (why ≡ Some refusal) × (reason_text why ≡ refused_line refusal)
+some_text : (why : Option Refusal) → passes why ≡ false → (refusal : Refusal) × (why ≡ Some refusal) × (reason_text why ≡ refused_line why)
 some_text None h = absurd (true≢false h)
 some_text (Some why) h = (why, refl, refl)
 
@@ -79,5 +78,5 @@ module _ (why : Option Refusal) (t : Bool) (e : t ≡ passes why) where
   pub reason_none : t ≡ true → (out : List ℕ) → (0 ≡ wrote_count out (reason_text why)) × (out ≡ wrote out (reason_text why))
   reason_none h out = rw (none_text why (sym e ∙ h)) (wrote_all out [] 0 out refl (omega arith) refl)
 
-  pub reason_some : t ≡ false → (refusal : Refusal) × (why ≡ Some refusal) × (reason_text why ≡ refused_line refusal)
+  pub reason_some : t ≡ false → (refusal : Refusal) × (why ≡ Some refusal) × (reason_text why ≡ refused_line why)
   reason_some h = some_text why (sym e ∙ h)

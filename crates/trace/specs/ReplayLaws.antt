@@ -9,7 +9,6 @@ use Rattle.std.proofs.Math.Seq.{sets, length-sets}
 use borrow.Author.Tests.{le-leb, lt-leb}
 use Rattle.lemmas.specs.Lists.{sets_append, to_end}
 use Rattle.refusal.specs.declared.Refusal.{Refusal}
-use Rattle.refusal.specs.Refusal.{number_of}
 use Rattle.refusal.specs.RefusalLaws.{number_not_zero}
 use Rattle.refusal.specs.declared.Refused.{Refused}
 use Rattle.refusal.specs.Answers.{Answer, given, refusal_of, refusal_number, passes}
@@ -57,7 +56,7 @@ start_bounds s e =
 
 -- ---- how long the line of a refusal is
 
-module _ (why : Refusal) (n : ℕ) (e : n ≡ number_of why) where
+module _ (why : Option Refusal) (n : ℕ) (e : n ≡ refusal_number why) where
   pub one_digit_length : n < 10 → (10 ≡ length (refused_line why)) × (10 ≤ 11)
   one_digit_length g = (rw (one_digit why n e g), omega arith)
 
@@ -78,14 +77,14 @@ module _ (why : Option Refusal) (n : ℕ) (e : n ≡ refusal_number why) where
     where
       go : (w : Option Refusal) → n ≡ refusal_number w → (10 ≡ length (reason_text w)) × (10 ≤ 11)
       go None z = absurd (omega arith)
-      go (Some w) z = one_digit_length w n z g
+      go (Some w) z = one_digit_length (Some w) n z g
 
   pub long_line : 10 ≤ n → (11 ≡ length (reason_text why)) × (11 ≤ 11)
   long_line h = go why e
     where
       go : (w : Option Refusal) → n ≡ refusal_number w → (11 ≡ length (reason_text w)) × (11 ≤ 11)
       go None z = absurd (omega arith)
-      go (Some w) z = two_digits_length w n z h
+      go (Some w) z = two_digits_length (Some w) n z h
 
 -- ---- the answer for a whole trace
 
@@ -160,7 +159,7 @@ pub start_bounds_from : (s : List ℕ) (b : Answer Begun) (t : Bool) → b ≡ c
 start_bounds_from s b t e et h = rw e (start_bounds s (rw (← e, ← et) h))
 
 -- the same by what the start is: refused, or given
-pub start_refused_replay : (s : List ℕ) (r : Refused Begun) → Err r ≡ call_start s → (replay_refusal s ≡ Some r.refusal) × (replay_of s ≡ refused_line r.refusal)
+pub start_refused_replay : (s : List ℕ) (r : Refused Begun) → Err r ≡ call_start s → (replay_refusal s ≡ Some r.refusal) × (replay_of s ≡ refused_line (Some r.refusal))
 start_refused_replay s r e = replay_of-refused s (Err r) false e refl refl
 
 pub start_given_replay : (s : List ℕ) (b : Begun) → Ok b ≡ call_start s

@@ -115,7 +115,7 @@ refused-known c kept more l h other =
     rw (spent_lines c (kept ++ more) (inr stop), spent_row c (kept ++ more) l stop, same)
 
 -- and one byte after the last row is known to be refused
-pub rest-known : (c : Course) (kept more : List ℕ) → c.left ≡ 0 → 0 < length kept → course_text c (kept ++ more) ≡ refused_line Refusal.Rest
+pub rest-known : (c : Course) (kept more : List ℕ) → c.left ≡ 0 → 0 < length kept → course_text c (kept ++ more) ≡ refused_line (Some Refusal.Rest)
 unfolding course_text
 rest-known c kept more e h =
     let some : 0 < length (kept ++ more) = rw length-append (omega arith) in

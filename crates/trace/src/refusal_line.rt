@@ -3,7 +3,7 @@ ghost use Rattle.std.specs.Prelude.{◌≡◌};
 ghost use Rattle.trace.specs.Trace.{refused_line, reason_text};
 ghost use Rattle.trace.specs.Slices.{wrote, wrote_count};
 
-use refusal::Refusal;
+use refusal::{Refusal, refusal_number};
 
 // Writes a text at the start of `out`, and answers how many bytes it has. Where it does not fit, nothing is written and the answer is 0.
 fn write(text: &[u8], out: &mut [u8]) -> usize
@@ -17,12 +17,12 @@ fn write(text: &[u8], out: &mut [u8]) -> usize
 }
 
 // Kept: bytes put in their places, and no Display. The contract says which bytes these are, and nothing says what Display writes.
-// Writes `refused N` and a line feed at the start of `out`, and answers how many bytes these are. Where they do not fit, nothing is
-// written and the answer is 0.
-pub fn refused_line(why: Refusal, out: &mut [u8]) -> usize
+// Writes `refused N`, and `refused 0` where nothing is refused, and a line feed at the start of `out`, and answers how many bytes these are.
+// Where they do not fit, nothing is written and the answer is 0.
+pub fn refused_line(why: Option<Refusal>, out: &mut [u8]) -> usize
     ensures { (result ≡ wrote_count out.old (refused_line why)) × (out.new ≡ wrote out.old (refused_line why)) }
 {
-    let n = why.number();
+    let n = refusal_number(why);
     if n < 10 {
         let mut line = *b"refused 0\n";
         line[8] = n as u8 + b'0';
@@ -40,7 +40,7 @@ pub(crate) fn reason_line(why: Option<Refusal>, out: &mut [u8]) -> usize
     ensures { (result ≡ wrote_count out.old (reason_text why)) × (out.new ≡ wrote out.old (reason_text why)) }
 {
     match why {
-        Some(why) => refused_line(why, out),
+        Some(_) => refused_line(why, out),
         None => 0,
     }
 }

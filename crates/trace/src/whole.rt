@@ -14,7 +14,7 @@ use refusal::Refusal;
 
 // How many bytes the line of a refusal has.
 fn line_length(why: Refusal) -> usize
-    ensures { (result ≡ length (refused_line why)) × (result ≤ 11) }
+    ensures { (result ≡ length (refused_line (Some why))) × (result ≤ 11) }
 {
     if why.number() < 10 { 10 } else { 11 }
 }
@@ -86,11 +86,11 @@ fn replay_trace(course: Course, trace: &[u8], out: &mut [u8]) -> Replayed
 
 // A file that is refused from the start.
 fn replay_refused(why: Refusal, out: &mut [u8]) -> Replayed
-    ensures { (result ≡ replayed_of (Some why) (refused_line why) out.old) × (out.new ≡ wrote out.old (refused_line why)) }
+    ensures { (result ≡ replayed_of (Some why) (refused_line (Some why)) out.old) × (out.new ≡ wrote out.old (refused_line (Some why))) }
 {
     let need = line_length(why);
     let whole = need <= out.len();
-    refused_line(why, out);
+    refused_line(Some(why), out);
     Replayed {
         refusal: Some(why),
         need,
