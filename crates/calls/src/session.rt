@@ -2,6 +2,7 @@
 use crate::answers::Answers;
 use crate::states::States;
 use arrayvec::ArrayVec;
+use calls_words::Results;
 use std::fmt;
 use std::fmt::{Display, Formatter};
 use std::io::{Read, Stdin, Stdout};
@@ -113,12 +114,13 @@ impl Session {
 
     // Answers the line that has come, and begins the next.
     fn end_line(&mut self) -> Result<(), Failed> {
+        let mut results = Results::of(());
         let reply = if self.line.long {
             None
         } else {
-            self.states.answer(self.line.bytes.as_slice())
+            self.states.answer(self.line.bytes.as_slice(), &mut results)
         };
-        self.answers.put(reply);
+        self.answers.put(reply, &results);
         self.line.clear();
         if self.answers.has_room() {
             return Ok(());

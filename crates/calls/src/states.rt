@@ -4,7 +4,7 @@ use calls_controllers::Controllers;
 use calls_filters::Filters;
 use calls_motor_statistics::MotorStatistics;
 use calls_notch::NotchStates;
-use calls_words::{Call, Reply};
+use calls_words::{Call, Reply, Results};
 
 #[derive(Clone, Copy)]
 pub(crate) struct States {
@@ -31,14 +31,14 @@ impl Default for States {
 
 impl States {
     // The first part that knows the call makes it.
-    pub(crate) fn answer(&mut self, line: &[u8]) -> Reply {
+    pub(crate) fn answer(&mut self, line: &[u8], results: &mut Results) -> Reply {
         let call = Call::of(line);
-        calls_numbers::answer(call)
-            .or_else(|| calls_curves::answer(call))
-            .or_else(|| self.filters.answer(call))
-            .or_else(|| self.motor_statistics.answer(call))
-            .or_else(|| self.controllers.answer(call))
-            .or_else(|| calls_bank::answer(call, &mut self.bank))
-            .or_else(|| self.notches.answer(call))
+        calls_numbers::answer(call, results)
+            .or_else(|| calls_curves::answer(call, results))
+            .or_else(|| self.filters.answer(call, results))
+            .or_else(|| self.motor_statistics.answer(call, results))
+            .or_else(|| self.controllers.answer(call, results))
+            .or_else(|| calls_bank::answer(call, &mut self.bank, results))
+            .or_else(|| self.notches.answer(call, results))
     }
 }

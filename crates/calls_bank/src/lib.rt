@@ -2,13 +2,13 @@
 #![tactic(auto)]
 
 use bank::{Bank, Called, Lane};
-use calls_words::{Call, Operand, Operands, Reply, Results, leaves};
+use calls_words::{Call, Operand, Operands, Reply, Results, gives, leaves};
 use refusal::{Answer, answer_of, given, refusal_of};
 
-pub fn answer(call: Call<'_>, bank: &mut Bank) -> Reply {
+pub fn answer(call: Call<'_>, bank: &mut Bank, results: &mut Results) -> Reply {
     let (state, call) = call.on_state()?;
     match state {
-        b"bank" => on_bank(call, bank),
+        b"bank" => on_bank(call, bank, results),
         _ => None,
     }
 }
@@ -26,16 +26,20 @@ impl Operand for Wanted {
     }
 }
 
-fn on_bank(call: Call<'_>, bank: &mut Bank) -> Reply {
+fn on_bank(call: Call<'_>, bank: &mut Bank, results: &mut Results) -> Reply {
     let before = *bank;
     match call.name {
         b"open" => {
             let (lane, (kp, ki, kd), (tau, dt), Wanted(slew)) = call.all()?;
-            leaves(bank, nothing(before.open(lane, kp, ki, kd, tau, dt, slew)))
+            leaves(
+                bank,
+                nothing(before.open(lane, kp, ki, kd, tau, dt, slew)),
+                results,
+            )
         }
         b"close" => {
             let lane = call.all()?;
-            leaves(bank, nothing(before.close(lane)))
+            leaves(bank, nothing(before.close(lane)), results)
         }
         b"update" => {
             let (lane, reference, measurement, prediction) = call.all()?;
@@ -45,29 +49,34 @@ fn on_bank(call: Call<'_>, bank: &mut Bank) -> Reply {
                     before.update(lane, reference, measurement, prediction),
                     |reply| reply.y,
                 ),
+                results,
             )
         }
         b"set_ts" => {
             let (lane, ts) = call.all()?;
-            leaves(bank, nothing(before.set_ts(lane, ts)))
+            leaves(bank, nothing(before.set_ts(lane, ts)), results)
         }
         b"set_gains" => {
             let (lane, kp, ki, kd) = call.all()?;
-            leaves(bank, nothing(before.set_gains(lane, kp, ki, kd)))
+            leaves(bank, nothing(before.set_gains(lane, kp, ki, kd)), results)
         }
         b"enable_integral" => {
             let (lane, enable) = call.all()?;
-            leaves(bank, nothing(before.enable_integral(lane, enable)))
+            leaves(bank, nothing(before.enable_integral(lane, enable)), results)
         }
         b"reset_integral" => {
             let lane = call.all()?;
-            leaves(bank, nothing(before.reset_integral(lane)))
+            leaves(bank, nothing(before.reset_integral(lane)), results)
         }
         b"terms" => {
             let lane = call.all()?;
-            leaves(bank, replied(before.terms(lane), |reply| reply.terms))
+            leaves(
+                bank,
+                replied(before.terms(lane), |reply| reply.terms),
+                results,
+            )
         }
-        b"show" => show(call, bank),
+        b"show" => show(call, bank, results),
         b"state" => set(call, bank),
         _ => None,
     }
@@ -89,15 +98,15 @@ fn nothing(called: Called<Bank>) -> (Answer<()>, Bank) {
 }
 
 // A lane's fields: whether it is open, then its controller's.
-fn show(call: Call<'_>, bank: &Bank) -> Reply {
+fn show(call: Call<'_>, bank: &Bank, results: &mut Results) -> Reply {
     let lane: usize = call.operands.all()?;
     let lane = bank.lanes.get(lane)?;
-    Some(Ok(Results::of((lane.open, lane.pid))))
+    gives((lane.open, lane.pid), results)
 }
 
 fn set(call: Call<'_>, bank: &mut Bank) -> Reply {
     let (lane, (open, pid)): (usize, (bool, _)) = call.operands.all()?;
     let place = bank.lanes.get_mut(lane)?;
     *place = Lane { open, pid };
-    Some(Ok(Results::of(())))
+    Some(Ok(()))
 }

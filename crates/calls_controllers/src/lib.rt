@@ -2,7 +2,7 @@
 #![tactic(auto)]
 
 use angle_pid::{Pid, PidUpdated};
-use calls_words::{Call, Reply, answers, leaves, sets};
+use calls_words::{Call, Reply, Results, answers, leaves, sets};
 use rate_pid::{RatePid, Updated};
 use refusal::{Answer, answer_of, given, refusal_of};
 
@@ -15,17 +15,17 @@ pub struct Controllers {
 
 impl Controllers {
     // Kept: alike in shape with the other parts, but each names its own states and calls.
-    pub fn answer(&mut self, call: Call<'_>) -> Reply {
+    pub fn answer(&mut self, call: Call<'_>, results: &mut Results) -> Reply {
         let (state, call) = call.on_state()?;
         match state {
-            b"pid" => on_pid(call, &mut self.pid),
-            b"rate_pid" => on_rate_pid(call, &mut self.rate_pid),
+            b"pid" => on_pid(call, &mut self.pid, results),
+            b"rate_pid" => on_rate_pid(call, &mut self.rate_pid, results),
             _ => None,
         }
     }
 }
 
-fn on_pid(call: Call<'_>, pid: &mut Pid) -> Reply {
+fn on_pid(call: Call<'_>, pid: &mut Pid, results: &mut Results) -> Reply {
     let before = *pid;
     match call.name {
         b"new" => {
@@ -74,13 +74,13 @@ fn on_pid(call: Call<'_>, pid: &mut Pid) -> Reply {
         }
         b"update" => {
             let error = call.all()?;
-            leaves(pid, value_and_steps(before.update(error)))
+            leaves(pid, value_and_steps(before.update(error)), results)
         }
         b"update_ts" => {
             let (error, ts) = call.all()?;
-            leaves(pid, value_and_steps(before.update_ts(error, ts)))
+            leaves(pid, value_and_steps(before.update_ts(error, ts)), results)
         }
-        _ => call.by_hand(pid),
+        _ => call.by_hand(pid, results),
     }
 }
 
@@ -90,7 +90,7 @@ fn value_and_steps(answer: Answer<PidUpdated>) -> (Answer<(f32, u32)>, Pid) {
     (answer_of(refusal_of(&answer), results), updated.pid)
 }
 
-fn on_rate_pid(call: Call<'_>, pid: &mut RatePid) -> Reply {
+fn on_rate_pid(call: Call<'_>, pid: &mut RatePid, results: &mut Results) -> Reply {
     let before = *pid;
     match call.name {
         b"new" => {
@@ -126,6 +126,7 @@ fn on_rate_pid(call: Call<'_>, pid: &mut RatePid) -> Reply {
             leaves(
                 pid,
                 value(before.update(reference, measurement, prediction)),
+                results,
             )
         }
         b"update_in_place" => {
@@ -133,13 +134,14 @@ fn on_rate_pid(call: Call<'_>, pid: &mut RatePid) -> Reply {
             leaves(
                 pid,
                 value(rate_pid_in_place::update(before, reference, measurement, prediction)),
+                results,
             )
         }
         b"get_terms" => {
             let () = call.all()?;
-            answers(before.get_terms())
+            answers(before.get_terms(), results)
         }
-        _ => call.by_hand(pid),
+        _ => call.by_hand(pid, results),
     }
 }
 

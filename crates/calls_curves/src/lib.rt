@@ -4,29 +4,35 @@
 mod rates_calls;
 
 use arrayvec::ArrayVec;
-use calls_words::{Call, Reply, answers};
+use calls_words::{Call, Reply, Results, answers};
 
 // More points than a line has room for.
 const POINTS: usize = 224;
 
-pub fn answer(call: Call<'_>) -> Reply {
+pub fn answer(call: Call<'_>, results: &mut Results) -> Reply {
     match call.name {
         b"linear_lut" => {
             let (x, points): (f32, ArrayVec<f32, POINTS>) = call.all()?;
-            answers(linear_lut::get(points.as_slice(), x))
+            answers(linear_lut::get(points.as_slice(), x), results)
         }
         b"quad_x_basic" => {
             let (x_dist, y_dist, reaction, outspin) = call.all()?;
-            answers(airframe::quad_x_basic(x_dist, y_dist, reaction, outspin))
+            answers(
+                airframe::quad_x_basic(x_dist, y_dist, reaction, outspin),
+                results,
+            )
         }
         b"quad_p_basic" => {
             let (x_dist, y_dist, reaction, outspin) = call.all()?;
-            answers(airframe::quad_p_basic(x_dist, y_dist, reaction, outspin))
+            answers(
+                airframe::quad_p_basic(x_dist, y_dist, reaction, outspin),
+                results,
+            )
         }
         b"dev_quad_motor_setup" => {
             let () = call.all()?;
-            answers(airframe::dev_quad_motor_setup())
+            answers(airframe::dev_quad_motor_setup(), results)
         }
-        _ => rates_calls::answer(call),
+        _ => rates_calls::answer(call, results),
     }
 }

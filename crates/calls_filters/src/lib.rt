@@ -1,7 +1,7 @@
 // The filters: crate filters.
 #![tactic(auto)]
 
-use calls_words::{Call, Operand, Reply, Shown, sets, steps};
+use calls_words::{Call, Operand, Reply, Results, Shown, sets, steps};
 use filters::{
     Complementary, Highpass, IntegratingComplementary, IntegratingHighpass, Lowpass, MovingAverage,
     NthOrderLowpass, SlewRate,
@@ -23,7 +23,7 @@ pub struct Filters {
 
 impl Filters {
     // Kept: alike in shape with the other parts, but each names its own states and calls.
-    pub fn answer(&mut self, call: Call<'_>) -> Reply {
+    pub fn answer(&mut self, call: Call<'_>, results: &mut Results) -> Reply {
         let (state, call) = call.on_state()?;
         match state {
             b"lowpass" => on_filter(
@@ -33,6 +33,7 @@ impl Filters {
                 Lowpass::set_dt,
                 (b"set_tau", Lowpass::set_tau),
                 Lowpass::update,
+                results,
             ),
             b"lowpass2" => on_filter(
                 call,
@@ -41,6 +42,7 @@ impl Filters {
                 NthOrderLowpass::set_dt,
                 (b"configure", NthOrderLowpass::configure),
                 NthOrderLowpass::update,
+                results,
             ),
             b"highpass" => on_filter(
                 call,
@@ -49,6 +51,7 @@ impl Filters {
                 Highpass::set_dt,
                 (b"set_tau", Highpass::set_tau),
                 Highpass::update,
+                results,
             ),
             b"complementary" => on_filter(
                 call,
@@ -57,6 +60,7 @@ impl Filters {
                 Complementary::set_dt,
                 (b"set_tau", Complementary::set_tau),
                 |filter, (low, high)| filter.update(low, high),
+                results,
             ),
             b"integrating_highpass" => on_filter(
                 call,
@@ -65,6 +69,7 @@ impl Filters {
                 IntegratingHighpass::set_dt,
                 (b"set_tau", IntegratingHighpass::set_tau),
                 IntegratingHighpass::update,
+                results,
             ),
             b"integrating_complementary" => on_filter(
                 call,
@@ -73,9 +78,10 @@ impl Filters {
                 IntegratingComplementary::set_dt,
                 (b"set_tau", IntegratingComplementary::set_tau),
                 |filter, (low, high)| filter.update(low, high),
+                results,
             ),
-            b"moving_average" => on_moving_average(call, &mut self.moving_average),
-            b"slew_rate" => on_slew_rate(call, &mut self.slew_rate),
+            b"moving_average" => on_moving_average(call, &mut self.moving_average, results),
+            b"slew_rate" => on_slew_rate(call, &mut self.slew_rate, results),
             _ => None,
         }
     }
@@ -96,6 +102,7 @@ fn on_filter<
     set_dt: SetDt,
     set_tau: (&'static [u8], SetTau),
     update: Update,
+    results: &mut Results,
 ) -> Reply
     requires news { New.IsAlwaysCallable new }
     requires sets_dt { SetDt.IsAlwaysCallable set_dt }
@@ -119,13 +126,13 @@ fn on_filter<
         }
         b"update" => {
             let x = call.all()?;
-            steps(filter, Ok(update(before, x)))
+            steps(filter, Ok(update(before, x)), results)
         }
-        _ => call.by_hand(filter),
+        _ => call.by_hand(filter, results),
     }
 }
 
-fn on_moving_average(call: Call<'_>, filter: &mut MovingAverage) -> Reply {
+fn on_moving_average(call: Call<'_>, filter: &mut MovingAverage, results: &mut Results) -> Reply {
     let before = *filter;
     match call.name {
         b"new" => sets(filter, MovingAverage::new(call.all()?)),
@@ -135,13 +142,13 @@ fn on_moving_average(call: Call<'_>, filter: &mut MovingAverage) -> Reply {
         }
         b"update" => {
             let value = call.all()?;
-            steps(filter, before.update(value))
+            steps(filter, before.update(value), results)
         }
-        _ => call.by_hand(filter),
+        _ => call.by_hand(filter, results),
     }
 }
 
-fn on_slew_rate(call: Call<'_>, filter: &mut SlewRate) -> Reply {
+fn on_slew_rate(call: Call<'_>, filter: &mut SlewRate, results: &mut Results) -> Reply {
     let before = *filter;
     match call.name {
         b"new" => {
@@ -154,8 +161,8 @@ fn on_slew_rate(call: Call<'_>, filter: &mut SlewRate) -> Reply {
         }
         b"update" => {
             let input = call.all()?;
-            steps(filter, before.update(input))
+            steps(filter, before.update(input), results)
         }
-        _ => call.by_hand(filter),
+        _ => call.by_hand(filter, results),
     }
 }

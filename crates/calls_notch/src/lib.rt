@@ -2,7 +2,7 @@
 #![tactic(auto)]
 
 use arrayvec::ArrayVec;
-use calls_words::{Call, Operand, Operands, Reply, Results, sets, steps};
+use calls_words::{Call, Operand, Operands, Reply, Results, Shown, sets, steps};
 use notch::{NotchFilter, Notches};
 use refusal::{answer_of, given, refusal_of};
 
@@ -15,17 +15,17 @@ pub struct NotchStates {
 
 impl NotchStates {
     // Kept: alike in shape with the other parts, but each names its own states and calls.
-    pub fn answer(&mut self, call: Call<'_>) -> Reply {
+    pub fn answer(&mut self, call: Call<'_>, results: &mut Results) -> Reply {
         let (state, call) = call.on_state()?;
         match state {
-            b"notch" => on_notch(call, &mut self.notch),
-            b"notches" => on_notches(call, &mut self.notches),
+            b"notch" => on_notch(call, &mut self.notch, results),
+            b"notches" => on_notches(call, &mut self.notches, results),
             _ => None,
         }
     }
 }
 
-fn on_notch(call: Call<'_>, notch: &mut NotchFilter) -> Reply {
+fn on_notch(call: Call<'_>, notch: &mut NotchFilter, results: &mut Results) -> Reply {
     let before = *notch;
     match call.name {
         b"new" => {
@@ -42,13 +42,13 @@ fn on_notch(call: Call<'_>, notch: &mut NotchFilter) -> Reply {
         }
         b"update" => {
             let input = call.all()?;
-            steps(notch, Ok(before.update(input)))
+            steps(notch, Ok(before.update(input)), results)
         }
-        _ => call.by_hand(notch),
+        _ => call.by_hand(notch, results),
     }
 }
 
-fn on_notches(call: Call<'_>, notches: &mut Notches) -> Reply {
+fn on_notches(call: Call<'_>, notches: &mut Notches, results: &mut Results) -> Reply {
     match call.name {
         b"new" => {
             let (first, second, third) = call.all()?;
@@ -61,8 +61,8 @@ fn on_notches(call: Call<'_>, notches: &mut Notches) -> Reply {
                 }),
             )
         }
-        b"run" => run(call, notches),
-        _ => call.by_hand(notches),
+        b"run" => run(call, notches, results),
+        _ => call.by_hand(notches, results),
     }
 }
 
@@ -94,10 +94,11 @@ impl Operand for SecondRun {
 }
 
 // The results are the second run as it stands after the call, refused or not.
-fn run(call: Call<'_>, notches: &mut Notches) -> Reply {
+fn run(call: Call<'_>, notches: &mut Notches, results: &mut Results) -> Reply {
     let (second, samples): (SecondRun, ArrayVec<f32, LONGEST>) = call.operands.all()?;
     let mut out = second.numbers;
     let answer = notches.run(samples.as_slice(), out.as_mut_slice());
     *notches = given(answer);
-    Some(answer_of(refusal_of(&answer), Results::of(out.as_slice())))
+    out.as_slice().show(results);
+    Some(answer_of(refusal_of(&answer), ()))
 }

@@ -40,11 +40,11 @@ impl<'a> Call<'a> {
     }
 
     // The calls that every state has: to show it, and to set it by hand.
-    pub fn by_hand<S: Operand + Shown>(self, state: &mut S) -> Reply {
+    pub fn by_hand<S: Operand + Shown>(self, state: &mut S, results: &mut Results) -> Reply {
         match self.name {
             b"show" => {
                 let () = self.all()?;
-                gives(*state)
+                gives(*state, results)
             }
             b"state" => sets(state, Ok(self.all()?)),
             _ => None,
@@ -53,36 +53,38 @@ impl<'a> Call<'a> {
 }
 
 // The reply of a call that cannot be refused.
-pub fn gives<R: Shown>(results: R) -> Reply {
-    Some(Ok(Results::of(results)))
+pub fn gives<R: Shown>(value: R, results: &mut Results) -> Reply {
+    value.show(results);
+    Some(Ok(()))
 }
 
 // The reply of a call that can.
-pub fn answers<R: Shown>(answer: Answer<R>) -> Reply {
-    Some(shown(answer))
+pub fn answers<R: Shown>(answer: Answer<R>, results: &mut Results) -> Reply {
+    given(answer).show(results);
+    Some(answer_of(refusal_of(&answer), ()))
 }
 
 // The reply of a call that leaves a state, which is kept.
-pub fn leaves<R: Shown, S: Drop>(state: &mut S, called: (Answer<R>, S)) -> Reply {
+pub fn leaves<R: Shown, S: Drop>(
+    state: &mut S,
+    called: (Answer<R>, S),
+    results: &mut Results,
+) -> Reply {
     let (answer, after) = called;
     *state = after;
-    Some(shown(answer))
+    answers(answer, results)
 }
 
 // The same of a constructor or a setter, which has no other results.
 pub fn sets<S: Copy>(state: &mut S, answer: Answer<S>) -> Reply {
     *state = given(answer);
-    Some(shown(answer_of(refusal_of(&answer), ())))
+    Some(answer_of(refusal_of(&answer), ()))
 }
 
 // The same of a step.
-pub fn steps<S: Copy>(state: &mut S, answer: Answer<Stepped<S>>) -> Reply {
+pub fn steps<S: Copy>(state: &mut S, answer: Answer<Stepped<S>>, results: &mut Results) -> Reply {
     let stepped = given(answer);
     *state = stepped.state;
-    Some(shown(answer_of(refusal_of(&answer), stepped.y)))
-}
-
-fn shown<R: Shown>(answer: Answer<R>) -> Answer<Results> {
-    let results = Results::of(given(answer));
-    answer_of(refusal_of(&answer), results)
+    stepped.y.show(results);
+    Some(answer_of(refusal_of(&answer), ()))
 }

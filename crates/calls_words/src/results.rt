@@ -6,14 +6,15 @@ use refusal::Answer;
 // The most results that a call has: the longest second run of notches.
 const MOST: usize = 64;
 
-// The words of the results.
+// The words of the results. A call is lent them, and puts its own there: handed back in the reply, all of the room would be copied on each step of
+// the way, which took more than half of a line's time.
 #[derive(Drop)]
 pub struct Results {
     words: ArrayVec<u32, MOST>,
 }
 
-// What a call answers: a refusal, if it is refused, and its results. `None` where the line is no call.
-pub type Reply = Option<Answer<Results>>;
+// What a call answers: a refusal, if it is refused. Its results are where they were lent. `None` where the line is no call: then there are none.
+pub type Reply = Option<Answer<()>>;
 
 impl Results {
     pub fn of<T: Shown>(value: T) -> Results {

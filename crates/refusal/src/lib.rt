@@ -68,10 +68,11 @@ impl Refusal {
 
 // Why a call is refused, and the results that are fixed for it: numbers are +0, a state is as it was, a constructor's is all zero, and
 // steps are 0, or 64 where they ran out.
+// The answer comes first, so that it lies at the same place as that of `Ok`: else the compiler takes states apart byte by byte to hand them on.
 #[derive(Clone, Copy, Debug, PartialEq, Eq)]
 pub struct Refused<A> {
-    pub refusal: Refusal,
     pub answer: A,
+    pub refusal: Refusal,
 }
 
 // What a call gives that can be refused.
