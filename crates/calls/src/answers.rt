@@ -52,7 +52,7 @@ impl Answers {
         self.put_byte(b'\n');
     }
 
-    // A space and the word's 8 digits. By hand, since a format takes several times as long, and most of an answer is words.
+    // A space and the word's 8 digits. By hand, since most of an answer is words, and a format goes through several calls for each.
     fn put_word(&mut self, word: u32) {
         let mut text = *b" 00000000";
         let mut rest = word;

@@ -7,7 +7,7 @@ use refusal::Answer;
 const MOST: usize = 64;
 
 // The words of the results. A call is lent them, and puts its own there: handed back in the reply, all of the room would be copied on each step of
-// the way, which took more than half of a line's time.
+// the way.
 #[derive(Drop)]
 pub struct Results {
     words: ArrayVec<u32, MOST>,
